@@ -1,0 +1,33 @@
+-- Words as they are written in document 01, as the bytes that a feed holds.
+-- Assumes nothing.
+use Prim.Native.Nat.{ℕ, _+_}
+use Prim.Native.Char.{code}
+use Prim.Native.String.{String}
+use mathlib.Core.List.{List, [], _∷_}
+use mathlib.Core.Bool.{Bool, true, false, _&&_}
+use lib.Dec.{eqb, leb}
+use lib.ListN.{length}
+
+-- the bytes of a quoted text
+unfoldable pub bytes : String → List ℕ
+bytes String.[] = []
+bytes (String._∷_ c s) = code c ∷ bytes s
+
+-- the text begins with the word
+unfoldable pub begins : List ℕ → List ℕ → Bool
+begins [] s = true
+begins (w ∷ ws) [] = false
+begins (w ∷ ws) (b ∷ s) = eqb b w && begins ws s
+
+-- how many bytes stand first that pass a test
+unfoldable pub run : (ℕ → Bool) → List ℕ → ℕ
+run p [] = 0
+run p (b ∷ s) = elim (p b) [ true ↦ run p s + 1 | false ↦ 0 ]
+
+-- the text is the word
+unfoldable pub isWord : List ℕ → List ℕ → Bool
+isWord w s = eqb (length s) (length w) && begins w s
+
+-- a digit is `0` to `9`
+abbrev pub isDigit : ℕ → Bool
+isDigit b = leb 48 b && leb b 57
