@@ -2,8 +2,8 @@
 -- Assumes nothing.
 use mathlib.Core.Path.{_≡_, refl, sym, ap, _∙_}
 use mathlib.Core.List.{List, [], _∷_}
-use mathlib.Core.Bool.{Bool, true, false, _&&_}
-use Prim.Native.Nat.{ℕ, zero, suc, _+_, _-_, _≤_, _<_}
+use mathlib.Core.Bool.{Bool, true, false, _&&_, false≢true}
+use Prim.Native.Nat.{ℕ, zero, suc, _+_, _-_, _≤_, _<_, suc-le-suc}
 use native.Mathlib.Nat.{suc-ne-zero}
 use native.Mathlib.Numerals.{add-one}
 use native.Mathlib.Omega.{arith}
@@ -28,6 +28,27 @@ module _ (p : ℕ → Bool) (s : List ℕ) (i : ℕ) where
   unfolding run
   run-stop h e = rw (drop-cons s i 0 h) (rw (e, run))
 
+pub run-le : (p : ℕ → Bool) (s : List ℕ) → run p s ≤ length s
+unfolding run
+run-le p [] = omega arith
+run-le p (b ∷ s) = go (p b) (run-le p s)
+  where
+    go : (t : Bool) → run p s ≤ length s → elim t [ true ↦ run p s + 1 | false ↦ 0 ] ≤ suc (length s)
+    go true h = omega arith
+    go false h = omega arith
+
+-- ---- a walk along a run: the place and what is left from there make n, what the whole was
+
+module _ (p : ℕ → Bool) (s : List ℕ) (i n : ℕ) where
+  pub walk-more : n ≡ i + run p (drop i s) → i < length s → p (getD s i 0) ≡ true → n ≡ i + 1 + run p (drop (i + 1) s)
+  walk-more q h e = omega (arith, run-more p s i h e)
+
+  pub walk-stop : n ≡ i + run p (drop i s) → i < length s → p (getD s i 0) ≡ false → i ≡ n
+  walk-stop q h e = omega (arith, run-stop p s i h e)
+
+  pub walk-end : n ≡ i + run p (drop i s) → length s ≤ i → i ≡ n
+  walk-end q h = omega (arith, run-end p s i h)
+
 -- ---- a word at the start of a text, seen from the same place in both
 
 module _ (w s : List ℕ) (i : ℕ) where
@@ -48,6 +69,16 @@ module _ (w s : List ℕ) (i : ℕ) where
       → begins (drop i w) (drop i s) ≡ false
   unfolding begins
   begins-stop h k e = rw (drop-cons w i 0 h, drop-cons s i 0 k, ne-eqb _ _ e)
+
+pub begins-le : (w s : List ℕ) → begins w s ≡ true → length w ≤ length s
+unfolding begins
+begins-le [] s e = omega arith
+begins-le (a ∷ w) [] e = absurd (false≢true e)
+begins-le (a ∷ w) (b ∷ s) e = go (eqb b a) e (begins-le w s)
+  where
+    go : (t : Bool) → t && begins w s ≡ true → (begins w s ≡ true → length w ≤ length s) → suc (length w) ≤ suc (length s)
+    go true q f = suc-le-suc (f q)
+    go false q f = absurd (false≢true q)
 
 -- the part from n to the end
 pub part-from : (s : List ℕ) (n : ℕ) → take (length s - n) (drop n s) ≡ drop n s

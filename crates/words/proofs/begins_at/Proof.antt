@@ -26,7 +26,7 @@ begins-with-requires : tie.Need-begins-with-requires
 begins-with-requires c κs = search needs
 
 returns-2 : tie.Need-returns-2
-returns-2 c = 
+returns-2 c =
     let a = c .before .before .before .before .before .args in
     c .begins-with .ensures ∙ ap (begins (a .word .now)) (part-from (a .text .now) (a .at))
 

@@ -30,7 +30,7 @@ shared-slice-read-if2-2 : tie.Need-shared-slice-read-if2-2 Inv-loop μ-loop
 shared-slice-read-if2-2 c = omega arith
 
 returns-2 : tie.Need-returns-2 Inv-loop μ-loop
-returns-2 c = 
+returns-2 c =
     let e = c .before .before .before in
     sym (e .before .before .loop .inv ∙ begins-stop _ _ _ (e .before .loop-test .taken) (e .if1 .left) (c .if2 .taken))
 
@@ -41,7 +41,7 @@ loop-less : tie.Need-loop-less Inv-loop μ-loop
 loop-less c = omega arith
 
 loop-again : tie.Need-loop-again Inv-loop μ-loop
-loop-again c = 
+loop-again c =
     let e = c .before .before .before in
     e .before .before .loop .inv ∙ begins-more _ _ _ (e .before .loop-test .taken) (e .if1 .left) (c .if2 .left)
 

@@ -1,0 +1,295 @@
+// A feed's lines and what a line's text is made of. Every function answers for any bytes.
+use words::begins_at;
+ghost use mathlib.Core.Path.{_≡_};
+ghost use mathlib.Core.List.{[]};
+ghost use Prim.Native.Nat.{_+_, _≤_, _<_};
+ghost use lib.ListN.{length, take, drop};
+ghost use Rattle.lines.specs.Feed.{textLen, endWith, endLen, endsOf};
+ghost use Rattle.lines.specs.Text.{blanks, cutEnd, trimOf, oddAt, equalsAt, moved, headingOf, heads, commentOf, wordEnds, sidesOf, fieldMore, fieldThen, gathered, splitOf};
+
+// A part of a text: from one place up to another.
+pub struct Span {
+    pub from: usize,
+    pub to: usize,
+}
+
+// Where a line's text ends, and where the next line starts.
+pub struct Ends {
+    pub end: usize,
+    pub next: usize,
+}
+
+pub enum Heading {
+    Opm,
+    Oem,
+    Nothing,
+}
+
+// A comment with its value's place, or no comment.
+pub enum Comment {
+    Value(Span),
+    Other,
+}
+
+// An assignment's keyword and value field, both trimmed.
+pub struct Sides {
+    pub keyword: Span,
+    pub value: Span,
+}
+
+// The first seven fields, and how many there are: 8 stands for more than seven.
+pub struct Fields {
+    pub count: usize,
+    pub spans: [Span; 7],
+}
+
+// The place of the first CR or LF at or after `from`, or the feed's end.
+fn text_end(feed: &[u8], from: usize) -> usize
+    ensures { λ r. ⌜ r ≡ from + textLen (drop from (now (feed .entry))) ⌝ }
+{
+    let mut end = from;
+    while end < feed.len() {
+        let b = feed[end];
+        if b == 13 {
+            return end;
+        }
+        if b == 10 {
+            return end;
+        }
+        end += 1;
+    }
+    end
+}
+
+// How many bytes an ending takes whose first byte is b, with c after it: none where b is neither CR nor LF.
+fn ends_with(b: u8, c: u8) -> usize
+    ensures { λ r. ⌜ r ≡ endWith b c ⌝ }
+{
+    if b == 13 {
+        if c == 10 {
+            return 2;
+        }
+        return 1;
+    }
+    if b == 10 {
+        if c == 13 {
+            return 2;
+        }
+        return 1;
+    }
+    0
+}
+
+// How many bytes the ending at `at` takes: none where no ending stands there.
+fn end_len(feed: &[u8], at: usize) -> usize
+    ensures { λ r. ⌜ r ≡ endLen (drop at (now (feed .entry))) ⌝ }
+{
+    if feed.len() <= at {
+        return 0;
+    }
+    let b = feed[at];
+    let next = at + 1;
+    if feed.len() <= next {
+        return ends_with(b, 0);
+    }
+    ends_with(b, feed[next])
+}
+
+// The line that starts at `from`.
+pub fn line_at(feed: &[u8], from: usize) -> Ends
+    ensures { λ r. ⌜ r ≡ endsOf from (drop from (now (feed .entry))) ⌝ }
+{
+    let end = text_end(feed, from);
+    let n = end_len(feed, end);
+    Ends { end, next: end + n }
+}
+
+// The place of the first byte at or after `from` that is no blank, or the text's end.
+fn blanks_end(text: &[u8], from: usize) -> usize
+    ensures { λ r. ⌜ r ≡ from + blanks (drop from (now (text .entry))) ⌝ }
+{
+    let mut at = from;
+    while at < text.len() {
+        if text[at] != 32 {
+            return at;
+        }
+        at += 1;
+    }
+    at
+}
+
+// Where the text ends without the blanks at its end.
+fn cut_end(text: &[u8]) -> usize
+    ensures { λ r. ⌜ r ≡ cutEnd (now (text .entry)) ⌝ }
+{
+    let mut end = text.len();
+    while 0 < end {
+        if text[end - 1] != 32 {
+            return end;
+        }
+        end -= 1;
+    }
+    end
+}
+
+// The text with the blanks at both ends cut.
+pub fn trim(text: &[u8]) -> Span
+    ensures { λ r. ⌜ r ≡ trimOf (now (text .entry)) ⌝ }
+{
+    let to = cut_end(text);
+    let from = blanks_end(&text[..to], 0);
+    Span { from, to }
+}
+
+// The first byte outside 32 to 126, or the text's length where there is none.
+pub fn odd_at(text: &[u8]) -> usize
+    ensures { λ r. ⌜ r ≡ oddAt (now (text .entry)) ⌝ }
+{
+    let mut at = 0;
+    while at < text.len() {
+        let b = text[at];
+        if b < 32 {
+            return at;
+        }
+        if 126 < b {
+            return at;
+        }
+        at += 1;
+    }
+    at
+}
+
+// The first `=`, or the text's length where there is none.
+pub fn equals_at(text: &[u8]) -> usize
+    ensures { λ r. ⌜ r ≡ equalsAt (now (text .entry)) ⌝ }
+{
+    let mut at = 0;
+    while at < text.len() {
+        if text[at] == 61 {
+            return at;
+        }
+        at += 1;
+    }
+    at
+}
+
+// A heading line of this word.
+fn heads_with(text: &[u8], word: &[u8]) -> bool
+    ensures { λ r. ⌜ r ≡ heads (now (word .entry)) (now (text .entry)) ⌝ }
+{
+    let at = blanks_end(text, 0);
+    if !begins_at(text, at, word) {
+        return false;
+    }
+    let equals = blanks_end(text, at + word.len());
+    begins_at(text, equals, b"=")
+}
+
+// Whether the line is a heading, and of which message.
+pub fn heading_of(text: &[u8]) -> Heading
+    ensures { λ r. ⌜ r ≡ headingOf (now (text .entry)) ⌝ }
+{
+    if heads_with(text, b"CCSDS_OPM_VERS") {
+        return Heading::Opm;
+    }
+    if heads_with(text, b"CCSDS_OEM_VERS") {
+        return Heading::Oem;
+    }
+    Heading::Nothing
+}
+
+// A blank or the end of the text stands at `at`.
+fn word_ends(text: &[u8], at: usize) -> bool
+    ensures { λ r. ⌜ r ≡ wordEnds (drop at (now (text .entry))) ⌝ }
+{
+    if text.len() <= at {
+        return true;
+    }
+    text[at] == 32
+}
+
+// The part of a text from `n` on, trimmed.
+fn trim_from(text: &[u8], n: usize) -> Span
+    requires { ⌜ n ≤ length (now text) ⌝ }
+    ensures { λ r. ⌜ r ≡ moved n (trimOf (drop n (now (text .entry)))) ⌝ }
+{
+    let p = trim(&text[n..]);
+    Span {
+        from: n + p.from,
+        to: n + p.to,
+    }
+}
+
+pub fn comment_of(text: &[u8]) -> Comment
+    ensures { λ r. ⌜ r ≡ commentOf (now (text .entry)) ⌝ }
+{
+    let at = blanks_end(text, 0);
+    if !begins_at(text, at, b"COMMENT") {
+        return Comment::Other;
+    }
+    let n = at + 7;
+    if !word_ends(text, n) {
+        return Comment::Other;
+    }
+    let value = trim_from(text, n);
+    Comment::Value(value)
+}
+
+// The two sides of the `=` at `n`.
+pub fn sides_of(text: &[u8], n: usize) -> Sides
+    requires { ⌜ n < length (now text) ⌝ }
+    ensures { λ r. ⌜ r ≡ sidesOf n (now (text .entry)) ⌝ }
+{
+    let keyword = trim(&text[..n]);
+    let value = trim_from(text, n + 1);
+    Sides { keyword, value }
+}
+
+// One field more: the first seven are kept.
+fn field_more(f: Fields, p: Span) -> Fields
+    ensures { λ r. ⌜ r ≡ fieldMore f p ⌝ }
+{
+    let n = f.count;
+    let mut spans = f.spans;
+    if n < 7 {
+        spans[n] = p;
+        Fields {
+            count: n + 1,
+            spans,
+        }
+    } else {
+        Fields { count: 8, spans }
+    }
+}
+
+// The field in hand, if there is one: it starts before the place where it would end.
+fn field_then(f: Fields, from: usize, to: usize) -> Fields
+    ensures { λ r. ⌜ r ≡ gathered f (fieldThen from to []) ⌝ }
+{
+    if from < to {
+        return field_more(f, Span { from, to });
+    }
+    f
+}
+
+// The fields of a text, parted by runs of blanks.
+pub fn fields_of(text: &[u8]) -> Fields
+    ensures { λ r. ⌜ r ≡ splitOf (now (text .entry)) ⌝ }
+{
+    let mut f = Fields {
+        count: 0,
+        spans: [Span { from: 0, to: 0 }; 7],
+    };
+    let mut from = 0;
+    let mut at = 0;
+    while at < text.len() {
+        let b = text[at];
+        let to = at;
+        at += 1;
+        if b == 32 {
+            f = field_then(f, from, to);
+            from = at;
+        }
+    }
+    field_then(f, from, at)
+}
