@@ -13,7 +13,7 @@ use lib.Seq.{drop-cons, drop-drop, take-suc}
 use borrow.Author.Tests.{eq-eqb, ne-eqb}
 use Rattle.words.specs.Words.{bytes, begins}
 use Rattle.words.proofs.Laws.{run-le, part-from}
-use Rattle.lines.specs.Feed.{isEnd, joins, textLen, endWith, endLen, endsOf}
+use Rattle.lines.specs.Feed.{isEnd, joins, textLen, endWith, endLen, lineLen, endsOf}
 use Rattle.lines.specs.Text.{isBlank, blanks, cutEnd, trimOf, moved, heads, headingOf, commentOf, wordEnds, fieldsFrom, fieldThen, gathered}
 use Rattle.lines.specs.declared.Ends.{Ends}
 use Rattle.lines.specs.declared.Comment.the-variants.{Value, Other}
@@ -133,7 +133,7 @@ abbrev ends : ℕ → ℕ → Ends
 ends e n = record { end = e; next = n }
 
 pub line-is : (f : List ℕ) (from e n : ℕ) → e ≡ from + textLen (drop from f) → n ≡ endLen (drop e f) → ends e (e + n) ≡ endsOf from (drop from f)
-unfolding endsOf
+unfolding endsOf lineLen
 line-is f from e n p q =
     let m = textLen (drop from f) in
     let r : n ≡ endLen (drop m (drop from f)) = q ∙ ap (λ (k : ℕ). endLen (drop k f)) p ∙ ap endLen (sym (drop-drop m from f)) in

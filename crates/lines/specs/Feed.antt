@@ -1,7 +1,7 @@
 -- A feed's lines, by document 01, "Feeds, lines and headings".
 -- Assumes nothing.
 use Prim.Native.Nat.{ℕ, _+_}
-use mathlib.Core.List.{List, [], _∷_, _++_}
+use mathlib.Core.List.{List, [], _∷_, _++_, map, List·Memᴰ}
 use mathlib.Core.Bool.{Bool, true, false, not, _&&_, _||_}
 use lib.Dec.{eqb}
 use lib.ListN.{length, take, drop}
@@ -62,6 +62,18 @@ endLen [] = 0
 endLen (b ∷ []) = endWith b 0
 endLen (b ∷ c ∷ s) = endWith b c
 
+-- how many bytes the first line takes, its ending with it
+unfoldable pub lineLen : List ℕ → ℕ
+lineLen s = textLen s + endLen (drop (textLen s) s)
+
 -- where the text of the line ends that starts at `at`, and where the next line starts
 unfoldable pub endsOf : ℕ → List ℕ → Ends
-endsOf at s = record { end = at + textLen s; next = at + (textLen s + endLen (drop (textLen s) s)) }
+endsOf at s = record { end = at + textLen s; next = at + lineLen s }
+
+-- a place where a line of the feed starts
+abbrev pub Starts : List ℕ → ℕ → Type 0
+Starts f q = List·Memᴰ q (map (λ (l : Line). l .start) (lines f))
+
+-- a line that stands d bytes further on
+abbrev pub movedLine : ℕ → Line → Line
+movedLine d l = record { start = d + l .start; text = l .text }
