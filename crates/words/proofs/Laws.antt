@@ -10,8 +10,8 @@ use native.Mathlib.Omega.{arith}
 use lib.Dec.{eqb}
 use lib.ListN.{length, getD, take, drop, length-drop, drop-of-length-le}
 use lib.Seq.{drop-cons, take-all}
-use borrow.Author.Tests.{eq-eqb, ne-eqb}
-use Rattle.words.specs.Words.{begins, run}
+use borrow.Author.Tests.{ne-eqb}
+use Rattle.words.specs.Words.{agrees, begins, run}
 
 -- ---- a run of bytes that pass a test, seen from a place in a list
 
@@ -49,36 +49,38 @@ module _ (p : ℕ → Bool) (s : List ℕ) (i n : ℕ) where
   pub walk-end : n ≡ i + run p (drop i s) → length s ≤ i → i ≡ n
   walk-end q h = omega (arith, run-end p s i h)
 
--- ---- a word at the start of a text, seen from the same place in both
+-- ---- a pattern at the start of a text, seen from the same place in both
 
-module _ (w s : List ℕ) (i : ℕ) where
-  pub begins-end : length w ≤ i → begins (drop i w) (drop i s) ≡ true
-  unfolding begins
-  begins-end h = rw (drop-of-length-le w h)
+module _ (f : ℕ → ℕ → Bool) (w s : List ℕ) (i : ℕ) where
+  pub agrees-end : length w ≤ i → agrees f (drop i w) (drop i s) ≡ true
+  unfolding agrees
+  agrees-end h = rw (drop-of-length-le w h)
 
-  pub begins-short : i < length w → length s ≤ i → begins (drop i w) (drop i s) ≡ false
-  unfolding begins
-  begins-short h k = rw (drop-cons w i 0 h, drop-of-length-le s k)
+  pub agrees-short : i < length w → length s ≤ i → agrees f (drop i w) (drop i s) ≡ false
+  unfolding agrees
+  agrees-short h k = rw (drop-cons w i 0 h, drop-of-length-le s k)
 
-  pub begins-more : i < length w → i < length s → getD s i 0 ≡ getD w i 0
-      → begins (drop i w) (drop i s) ≡ begins (drop (i + 1) w) (drop (i + 1) s)
-  unfolding begins
-  begins-more h k e = rw (add-one, drop-cons w i 0 h, drop-cons s i 0 k, eq-eqb _ _ e)
+  pub agrees-more : i < length w → i < length s → f (getD w i 0) (getD s i 0) ≡ true
+      → agrees f (drop i w) (drop i s) ≡ agrees f (drop (i + 1) w) (drop (i + 1) s)
+  unfolding agrees
+  agrees-more h k e = rw (add-one, drop-cons w i 0 h, drop-cons s i 0 k, e)
 
-  pub begins-stop : i < length w → i < length s → (getD s i 0 ≡ getD w i 0 → ⊥)
-      → begins (drop i w) (drop i s) ≡ false
-  unfolding begins
-  begins-stop h k e = rw (drop-cons w i 0 h, drop-cons s i 0 k, ne-eqb _ _ e)
+  pub agrees-stop : i < length w → i < length s → f (getD w i 0) (getD s i 0) ≡ false → agrees f (drop i w) (drop i s) ≡ false
+  unfolding agrees
+  agrees-stop h k e = rw (drop-cons w i 0 h, drop-cons s i 0 k, e)
+
+pub agrees-le : (f : ℕ → ℕ → Bool) (w s : List ℕ) → agrees f w s ≡ true → length w ≤ length s
+unfolding agrees
+agrees-le f [] s e = omega arith
+agrees-le f (a ∷ w) [] e = absurd (false≢true e)
+agrees-le f (a ∷ w) (b ∷ s) e = go (f a b) e (agrees-le f w s)
+  where
+    go : (t : Bool) → t && agrees f w s ≡ true → (agrees f w s ≡ true → length w ≤ length s) → suc (length w) ≤ suc (length s)
+    go true q g = suc-le-suc (g q)
+    go false q g = absurd (false≢true q)
 
 pub begins-le : (w s : List ℕ) → begins w s ≡ true → length w ≤ length s
-unfolding begins
-begins-le [] s e = omega arith
-begins-le (a ∷ w) [] e = absurd (false≢true e)
-begins-le (a ∷ w) (b ∷ s) e = go (eqb b a) e (begins-le w s)
-  where
-    go : (t : Bool) → t && begins w s ≡ true → (begins w s ≡ true → length w ≤ length s) → suc (length w) ≤ suc (length s)
-    go true q f = suc-le-suc (f q)
-    go false q f = absurd (false≢true q)
+begins-le w s e = agrees-le (λ a b. eqb b a) w s e
 
 -- the part from n to the end
 pub part-from : (s : List ℕ) (n : ℕ) → take (length s - n) (drop n s) ≡ drop n s
@@ -86,6 +88,6 @@ part-from s n = take-all (length s - n) (drop n s) (simp length-drop (omega arit
 
 -- only the empty word stands past the end
 pub begins-past : (w s : List ℕ) (n : ℕ) → length s ≤ n → eqb (length w) 0 ≡ begins w (drop n s)
-unfolding begins
+unfolding agrees
 begins-past [] s n h = refl
 begins-past (b ∷ w) s n h = rw (drop-of-length-le s h) (ne-eqb (suc (length w)) 0 (λ e. suc-ne-zero _ e))

@@ -13,11 +13,15 @@ unfoldable pub bytes : String → List ℕ
 bytes String.[] = []
 bytes (String._∷_ c s) = code c ∷ bytes s
 
+-- the text begins with a pattern: each byte of it passes the test with the text's byte
+unfoldable pub agrees : (ℕ → ℕ → Bool) → List ℕ → List ℕ → Bool
+agrees f [] s = true
+agrees f (w ∷ ws) [] = false
+agrees f (w ∷ ws) (b ∷ s) = f w b && agrees f ws s
+
 -- the text begins with the word
-unfoldable pub begins : List ℕ → List ℕ → Bool
-begins [] s = true
-begins (w ∷ ws) [] = false
-begins (w ∷ ws) (b ∷ s) = eqb b w && begins ws s
+abbrev pub begins : List ℕ → List ℕ → Bool
+begins w s = agrees (λ a b. eqb b a) w s
 
 -- how many bytes stand first that pass a test
 unfoldable pub run : (ℕ → Bool) → List ℕ → ℕ
