@@ -12,6 +12,9 @@ use lib.Dec.{eqb}
 use lib.ListN.{length, take, drop, length-append, length-drop}
 use lib.Seq.{drop-drop, drop-append-seam}
 use Rattle.words.specs.Words.{run}
+use Rattle.words.proofs.Laws.{run-le}
+use Rattle.lines.proofs.Laws.{end-le}
+use Rattle.lines.specs.declared.Ends.{Ends}
 use Rattle.lines.specs.Feed.{Line, isEnd, joins, lastLine, linesFrom, linesAt, lines, textLen, endWith, endLen, lineLen, endsOf, Starts, movedLine}
 
 abbrev line : ℕ → List ℕ → Line
@@ -220,3 +223,22 @@ pub lines-append : (p t : List ℕ) → Starts (p ++ t) (length p) → (before :
 lines-append p t m =
     let c = lines-from (p ++ t) (length p) m in
     (c .0, c .1 ∙ ap (λ (l : List ℕ). c .0 ++ linesAt (length p) l) (drop-append-seam p t))
+
+-- ---- the places of a line lie in the feed
+
+pub record Placed (f : List ℕ) (from : ℕ) (e : Ends) : Type 0 where
+  pub start : from ≤ e .end
+  pub end : e .end ≤ length f
+  pub on : from < e .next
+  pub next : e .next ≤ length f
+
+pub placed : (f : List ℕ) (from : ℕ) (e : Ends) → from < length f → e ≡ endsOf from (drop from f) → Placed f from e
+unfolding endsOf lineLen
+placed f from e h q =
+    let s = drop from f in
+    let d = length-drop from f in
+    let t = run-le (λ b. not (isEnd b)) s in
+    let n = end-le (drop (textLen s) s) in
+    let m = length-drop (textLen s) s in
+    let k : 0 < lineLen s = len-some s (omega arith) in
+    rw q (record { start = omega arith; end = omega arith; on = omega arith; next = omega arith })

@@ -1,0 +1,3 @@
+pub mod Keywords
+pub mod Order
+pub mod Rows
