@@ -1,0 +1,221 @@
+-- Whatever a step answers has one of four forms: an offence, no row, one row whose value lies in the text, or seven of them.
+-- Assumes nothing.
+use mathlib.Core.Path.{_≡_, refl, sym, ap, _∙_}
+use mathlib.Core.List.{List, [], _∷_}
+use mathlib.Core.Bool.{Bool, true, false, _&&_, false≢true}
+use Prim.Native.Nat.{ℕ, zero, suc, _+_, _-_, _≤_, _<_}
+use native.Mathlib.Omega.{arith}
+use lib.Dec.{eqb, ltb, leb}
+use borrow.Author.Tests.{leb-true, ltb-true}
+use lib.ListN.{length, getD, take, drop, length-drop}
+use Rattle.words.specs.Words.{bytes, begins, isWord}
+use Rattle.words.proofs.Laws.{begins-le}
+use Rattle.lines.specs.Text.{blanks, trimOf, moved, commentOf, wordEnds, equalsAt, sidesOf, splitOf, noSpan, isLong, oddAt}
+use Rattle.lines.specs.declared.Span.{Span}
+use Rattle.lines.specs.declared.Sides.{Sides}
+use Rattle.lines.specs.declared.Fields.{Fields}
+use Rattle.lines.specs.declared.Comment.{Comment}
+use Rattle.lines.specs.declared.Comment.the-variants.{Value as CommentValue, Other}
+use Rattle.lines.proofs.Laws.{trim-within}
+use Rattle.epochs.specs.Epoch.{epochOf}
+use Rattle.epochs.specs.declared.Instant.{Instant}
+use Rattle.epochs.specs.declared.Epoch.{Epoch as EpochRead}
+use Rattle.epochs.specs.declared.Epoch.the-variants.{At, Bad}
+use Rattle.grammar.specs.Keywords.{Entry, keywordOf, keywords, codeIn, assigns, kindOf, isUnit}
+use Rattle.grammar.specs.declared.Form.{Form}
+use Rattle.grammar.specs.declared.Form.the-variants.{Opm, Oem}
+use Rattle.grammar.specs.declared.Keyword.{Keyword}
+use Rattle.grammar.specs.declared.Keyword.the-variants.{Code, Unknown}
+use Rattle.grammar.specs.declared.Kind.{Kind}
+use Rattle.grammar.specs.declared.Kind.the-variants.{Version, Text, Integer, Number, Epoch, Nothing}
+use Rattle.values.specs.Number.{isNumber, isText, isVersion, isInteger}
+use Rattle.step.specs.Step.{wrong, noRow, oneRow, sevenRows, past, fitsHere, part, Inside, SevenInside, areNumbers, isTimely, pastData, dataAt, dataOf, fieldsOf, wholeOf, wordLen, numberOf, pastTime, isEarly, timeOf, valueOf, assignOf, metaCode, metaOf, plainOf, pastComment, uncommentedOf, filledOf, stepOf}
+use Rattle.step.specs.declared.State.{State}
+use Rattle.step.specs.declared.Step.{Step}
+use Rattle.step.specs.declared.Reason.{Reason}
+use Rattle.step.specs.declared.Reason.the-variants as Reasons
+use Rattle.step.proofs.Laws.{part-length, word-le, trim-inside, sides-inside, fields-inside}
+
+pub data Good (s : List ℕ) : Step → Type 0 where
+  offence : (st : State) (r : Reason) → Good s (wrong st r)
+  none : (st : State) → Good s (noRow st)
+  one : (st : State) (c : ℕ) (p : Span) → c ≤ 45 → Inside p s → Good s (oneRow st c p)
+  seven : (st : State) (ps : List Span) → SevenInside ps s → Good s (sevenRows st ps)
+
+few-rows : {s : List ℕ} {x : Step} → Good s x → x .count ≤ 7
+few-rows (offence st r) = omega arith
+few-rows (none st) = omega arith
+few-rows (one st c p h k) = omega arith
+few-rows (seven st ps k) = omega arith
+
+-- ---- codes are small
+
+smallCodes : List Entry → Bool
+smallCodes [] = true
+smallCodes (k ∷ ks) = leb (k .code) 45 && smallCodes ks
+
+code-le : (ks : List Entry) (s : List ℕ) → smallCodes ks ≡ true → codeIn ks s ≤ 45
+unfolding codeIn smallCodes
+code-le [] s e = omega arith
+code-le (k ∷ ks) s e = go (isWord (k .word) s) (leb (k .code) 45) refl e (code-le ks s)
+  where
+    go : (t u : Bool) → leb (k .code) 45 ≡ u → u && smallCodes ks ≡ true → (smallCodes ks ≡ true → codeIn ks s ≤ 45)
+        → elim t [ true ↦ k .code | false ↦ codeIn ks s ] ≤ 45
+    go true true q r f = leb-true (k .code) 45 q
+    go true false q r f = absurd (false≢true r)
+    go false true q r f = f r
+    go false false q r f = absurd (false≢true r)
+
+keyword-le : (f : Form) (s : List ℕ) (c : ℕ) → keywordOf f s ≡ Code c → c ≤ 45
+unfolding keywordOf smallCodes keywords bytes
+keyword-le f s c = go (assigns f (codeIn keywords s)) (codeIn keywords s) (code-le keywords s refl)
+  where
+    go : (t : Bool) (n : ℕ) → n ≤ 45 → elim t [ true ↦ Code n | false ↦ Unknown ] ≡ Code c → c ≤ 45
+    go true n h e = let q : n ≡ c = cc in omega arith
+    go false n h e = let z : _≡_ {A = ℕ} 0 1 = cc in omega arith
+
+meta-le : (f : Form) (t : List ℕ) → metaCode f t ≤ 45
+unfolding metaCode
+meta-le Opm t = omega arith
+meta-le Oem t = go (isWord (bytes "META_START") t) (isWord (bytes "META_STOP") t)
+  where
+    go : (a b : Bool) → elim a [ true ↦ 37 | false ↦ elim b [ true ↦ 44 | false ↦ 0 ] ] ≤ 45
+    go true b = omega arith
+    go false true = omega arith
+    go false false = omega arith
+
+-- a comment's value lies in its text
+comment-room : (s : List ℕ) → begins (bytes "COMMENT") (drop (blanks s) s) ≡ true → blanks s + 7 ≤ length s
+unfolding bytes
+comment-room s e = omega (arith, begins-le _ (drop (blanks s) s) e, length-drop (blanks s) s)
+
+comment-inside : (s : List ℕ) (p : Span) → commentOf s ≡ CommentValue p → Inside p s
+unfolding commentOf
+comment-inside s p = go (begins (bytes "COMMENT") (drop (blanks s) s)) refl (wordEnds (drop (blanks s + 7) s))
+  where
+    go : (t : Bool) → begins (bytes "COMMENT") (drop (blanks s) s) ≡ t → (u : Bool)
+        → elim (t && u) [ true ↦ CommentValue (moved (blanks s + 7) (trimOf (drop (blanks s + 7) s))) | false ↦ Other ] ≡ CommentValue p → Inside p s
+    go true q true e =
+        let n = blanks s + 7 in
+        let h = comment-room s q in
+        let w = trim-within (drop n s) in
+        let k : moved n (trimOf (drop n s)) ≡ p = cc in
+        rw (← k) (record { order = omega (arith, w .0); end = omega (arith, w .1, length-drop n s) })
+    go true q false e = let z : _≡_ {A = ℕ} 0 1 = cc in absurd (omega arith)
+    go false q u e = let z : _≡_ {A = ℕ} 0 1 = cc in absurd (omega arith)
+
+module _ (s : List ℕ) where
+  either : (t : Bool) {a b : Step} → Good s a → Good s b → Good s (elim t [ true ↦ a | false ↦ b ])
+  either true g h = g
+  either false g h = h
+
+  module _ (st : State) where
+    data-at-good : (f : Fields) (t : Instant) → SevenInside (f .spans) s → Good s (dataAt st f t s)
+    unfolding dataAt
+    data-at-good f t h = either (areNumbers (drop 1 (f .spans)) s) (either (isTimely st t) (seven _ _ h) (offence st _)) (offence st _)
+
+    data-good : (f : Fields) → SevenInside (f .spans) s → Good s (dataOf st f s)
+    unfolding dataOf
+    data-good f h = either (fitsHere st 9) (go (epochOf (part (getD (f .spans) 0 noSpan) s))) (offence st _)
+      where
+        go : (e : EpochRead) → Good s (elim e [ Bad ↦ wrong st Reasons.Value | At t ↦ dataAt st f t s ])
+        go Bad = offence st _
+        go (At t) = data-at-good f t h
+
+    fields-good : Good s (fieldsOf st s)
+    unfolding fieldsOf
+    fields-good = go (st .form)
+      where
+        go : (f : Form) → Good s (elim f [ Opm ↦ wrong st Reasons.Form | Oem ↦ elim (eqb (splitOf s .count) 7) [ false ↦ wrong st Reasons.Form | true ↦ dataOf st (splitOf s) s ] ])
+        go Opm = offence st _
+        go Oem = either (eqb (splitOf s .count) 7) (data-good (splitOf s) (fields-inside s _ refl)) (offence st _)
+
+    meta-good : (c n : ℕ) → c ≤ 45 → n ≤ length s → Good s (metaOf st c n)
+    unfolding metaOf
+    meta-good c n k h = either (fitsHere st c) (one _ c _ k (record { order = omega arith; end = h })) (offence st _)
+
+    module _ (c : ℕ) (p : Span) (k : c ≤ 45) (h : Inside p s) where
+      whole-good : (t : Bool) → Good s (wholeOf st c p t)
+      unfolding wholeOf
+      whole-good t = either t (one _ c p k h) (offence st _)
+
+      time-good : Good s (timeOf st c p s)
+      unfolding timeOf
+      time-good = go (epochOf (part p s))
+        where
+          go : (e : EpochRead) → Good s (elim e [ Bad ↦ wrong st Reasons.Value | At t ↦ elim (isEarly st c t) [ true ↦ wrong st Reasons.TimeOrder | false ↦ oneRow (pastTime st c t) c p ] ])
+          go Bad = offence st _
+          go (At t) = either (isEarly st c t) (offence st _) (one _ c p k h)
+
+      number-good : Good s (numberOf st c p s)
+      unfolding numberOf
+      number-good =
+          let v = part p s in
+          let n = wordLen v in
+          let r = drop n v in
+          either (isNumber (take n v))
+          (either (isUnit c (part (trimOf r) r))
+          (one _ c _ k (record { order = omega arith; end = omega (arith, word-le v, part-length p s h, h .order, h .end) }))
+          (offence st _))
+          (offence st _)
+
+      value-good : Good s (valueOf st c p s)
+      unfolding valueOf
+      value-good = go (kindOf c)
+        where
+          go : (q : Kind)
+              → Good s (elim q [
+                | Version ↦ wholeOf st c p (isVersion (part p s))
+                | Text ↦ wholeOf st c p (isText (part p s))
+                | Integer ↦ wholeOf st c p (isInteger (part p s))
+                | Number ↦ numberOf st c p s
+                | Epoch ↦ timeOf st c p s
+                | Nothing ↦ wrong st Reasons.Value
+              ])
+          go Version = whole-good _
+          go Text = whole-good _
+          go Integer = whole-good _
+          go Number = number-good
+          go Epoch = time-good
+          go Nothing = offence st _
+
+    assign-good : (x : Sides) → Inside (x .keyword) s × Inside (x .value) s → Good s (assignOf st x s)
+    unfolding assignOf
+    assign-good x h = go (keywordOf (st .form) (part (x .keyword) s)) refl
+      where
+        go : (q : Keyword) → keywordOf (st .form) (part (x .keyword) s) ≡ q
+            → Good s (elim q [ Unknown ↦ wrong st Reasons.Keyword | Code c ↦ elim (fitsHere st c) [ false ↦ wrong st Reasons.Order | true ↦ valueOf st c (x .value) s ] ])
+        go Unknown e = offence st _
+        go (Code c) e = either (fitsHere st c) (value-good c (x .value) (keyword-le _ _ c e) (h .1)) (offence st _)
+
+    plain-good : Good s (plainOf st s)
+    unfolding plainOf
+    plain-good = go (ltb (equalsAt s) (length s)) refl
+      where
+        go : (t : Bool) → ltb (equalsAt s) (length s) ≡ t
+            → Good s (elim t [ true ↦ assignOf st (sidesOf (equalsAt s) s) s | false ↦ fieldsOf st s ])
+        go true e = assign-good _ (sides-inside s (equalsAt s) _ (ltb-true _ _ e) refl)
+        go false e = fields-good
+
+    uncommented-good : (t : Span) → Inside t s → Good s (uncommentedOf st t s)
+    unfolding uncommentedOf
+    uncommented-good t h =
+        either (eqb (metaCode (st .form) (part t s)) 0) plain-good (meta-good _ (t .to) (meta-le (st .form) (part t s)) (h .end))
+
+    filled-good : (t : Span) → Inside t s → Good s (filledOf st t s)
+    unfolding filledOf
+    filled-good t h = go (commentOf s) refl
+      where
+        go : (q : Comment) → commentOf s ≡ q → Good s (elim q [ CommentValue p ↦ oneRow (pastComment st) 45 p | Other ↦ uncommentedOf st t s ])
+        go (CommentValue p) e = one _ 45 p (omega arith) (comment-inside s p e)
+        go Other e = uncommented-good t h
+
+    pub step-good : Good s (stepOf st s)
+    unfolding stepOf
+    step-good =
+        either (isLong s) (offence st _)
+        (either (ltb (oddAt s) (length s)) (offence st _) (either (eqb (trimOf s .to) 0) (none st) (filled-good (trimOf s) (trim-inside s _ refl))))
+
+-- a line has at most seven rows
+pub few : (st : State) (s : List ℕ) → stepOf st s .count ≤ 7
+few st s = few-rows (step-good s st)

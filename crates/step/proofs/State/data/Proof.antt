@@ -1,0 +1,86 @@
+-- `step::State::data` meets its contract: ORDER, then the epoch, then the rest.
+-- Assumes nothing.
+use mathlib.Core.Path.{_∙_, sym}
+use borrow.Author.Tests.{not-true, not-false}
+use Rattle.step.specs.Step.{dataOf}
+use borrow.Author.Needs.{needs}
+use Rattle.step.proofs.State.data.Statement.{statement}
+use Rattle.step.proofs.State.data.Tie as tie
+use Rattle.step.proofs.State.data.Reads as reads
+use Rattle.step.proofs.State.data.Lts as lts
+use Rattle.epochs.proofs.epoch_of.Reads as epoch-of-reads
+use Rattle.step.proofs.State.data_at.Reads as data-at-reads
+use Rattle.step.proofs.State.fits.Reads as fits-reads
+use Rattle.step.proofs.State.wrong.Reads as wrong-reads
+
+fits-requires : tie.Need-fits-requires
+fits-requires c κs = search needs
+
+wrong-requires : tie.Need-wrong-requires
+wrong-requires c κs = search needs
+
+returns : tie.Need-returns
+unfolding dataOf
+returns c = c .wrong .ensures ∙ rw (sym (c .before .before .fits2 .ensures) ∙ not-true _ (c .before .if1 .taken), dataOf)
+
+array-copy-out-p : tie.Need-array-copy-out-p
+array-copy-out-p c = search needs
+
+sub-epoch-of : tie.Need-sub-epoch-of
+sub-epoch-of c = c .before .before .before .before .before .pre .inside 0 .order
+
+part-epoch-of-start : tie.Need-part-epoch-of-start
+part-epoch-of-start c = c .before .before .before .before .before .pre .inside 0 .order
+
+part-epoch-of-end : tie.Need-part-epoch-of-end
+part-epoch-of-end c = c .before .before .before .before .before .pre .inside 0 .end
+
+epoch-of-requires : tie.Need-epoch-of-requires
+epoch-of-requires c κs = search needs
+
+enum-told : tie.Need-enum-told
+enum-told c = search needs
+
+wrong-requires-2 : tie.Need-wrong-requires-2
+wrong-requires-2 c κs = search needs
+
+enum-known-t : tie.Need-enum-known-t
+enum-known-t c = search needs
+
+data-at-requires : tie.Need-data-at-requires
+data-at-requires c κs = search needs
+
+returns-2 : tie.Need-returns-2
+unfolding dataOf
+returns-2 c =
+    let e = c .before .before .before in
+    let i = e .before .before .before .before in
+    c .wrong2 .ensures
+    ∙ rw (sym (i .before .fits2 .ensures) ∙ not-false _ (i .if1 .left), dataOf) (rw (sym (e .epoch-of .ensures) ∙ c .before .enum-told .given .1))
+
+returns-3 : tie.Need-returns-3
+unfolding dataOf
+returns-3 c =
+    let e = c .before .before .before .before in
+    let i = e .before .before .before .before in
+    c .data-at .ensures
+    ∙ rw (sym (i .before .fits2 .ensures) ∙ not-false _ (i .if1 .left), dataOf) (rw (sym (e .epoch-of .ensures) ∙ c .before .before .t .given .1))
+
+pub data-spec : {M : Type 1} → statement M
+data-spec =
+    tie.close
+    (tie.spec
+    fits-requires
+    wrong-requires
+    returns
+    array-copy-out-p
+    sub-epoch-of
+    part-epoch-of-start
+    part-epoch-of-end
+    epoch-of-requires
+    enum-told
+    wrong-requires-2
+    enum-known-t
+    data-at-requires
+    returns-2
+    returns-3)

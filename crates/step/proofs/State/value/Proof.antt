@@ -1,0 +1,158 @@
+-- `step::State::value` meets its contract: the kind decides.
+-- Assumes nothing.
+use mathlib.Core.Path.{_∙_, sym}
+use Rattle.step.specs.Step.{valueOf}
+use borrow.Author.Needs.{needs}
+use Rattle.step.proofs.State.value.Statement.{statement}
+use Rattle.step.proofs.State.value.Tie as tie
+use Rattle.step.proofs.State.value.Reads as reads
+use Rattle.step.proofs.State.value.Lts as lts
+use Rattle.grammar.proofs.kind_of.Reads as kind-of-reads
+use Rattle.step.proofs.State.number.Reads as number-reads
+use Rattle.step.proofs.State.time.Reads as time-reads
+use Rattle.step.proofs.State.whole.Reads as whole-reads
+use Rattle.step.proofs.State.wrong.Reads as wrong-reads
+use Rattle.values.proofs.is_integer.Reads as is-integer-reads
+use Rattle.values.proofs.is_text.Reads as is-text-reads
+use Rattle.values.proofs.is_version.Reads as is-version-reads
+
+kind-of-requires : tie.Need-kind-of-requires
+kind-of-requires c κs = search needs
+
+enum-told : tie.Need-enum-told
+enum-told c = search needs
+
+sub-is-version : tie.Need-sub-is-version
+sub-is-version c = search needs
+
+part-is-version-start : tie.Need-part-is-version-start
+part-is-version-start c = search needs
+
+part-is-version-end : tie.Need-part-is-version-end
+part-is-version-end c = search needs
+
+is-version-requires : tie.Need-is-version-requires
+is-version-requires c κs = search needs
+
+whole-requires : tie.Need-whole-requires
+whole-requires c κs = search needs
+
+enum-told-2 : tie.Need-enum-told-2
+enum-told-2 c = search needs
+
+sub-is-text : tie.Need-sub-is-text
+sub-is-text c = search needs
+
+part-is-text-start : tie.Need-part-is-text-start
+part-is-text-start c = search needs
+
+part-is-text-end : tie.Need-part-is-text-end
+part-is-text-end c = search needs
+
+is-text-requires : tie.Need-is-text-requires
+is-text-requires c κs = search needs
+
+whole-requires-2 : tie.Need-whole-requires-2
+whole-requires-2 c κs = search needs
+
+enum-told-3 : tie.Need-enum-told-3
+enum-told-3 c = search needs
+
+sub-is-integer : tie.Need-sub-is-integer
+sub-is-integer c = search needs
+
+part-is-integer-start : tie.Need-part-is-integer-start
+part-is-integer-start c = search needs
+
+part-is-integer-end : tie.Need-part-is-integer-end
+part-is-integer-end c = search needs
+
+is-integer-requires : tie.Need-is-integer-requires
+is-integer-requires c κs = search needs
+
+whole-requires-3 : tie.Need-whole-requires-3
+whole-requires-3 c κs = search needs
+
+enum-told-4 : tie.Need-enum-told-4
+enum-told-4 c = search needs
+
+number-requires : tie.Need-number-requires
+number-requires c κs = search needs
+
+enum-told-5 : tie.Need-enum-told-5
+enum-told-5 c = search needs
+
+time-requires : tie.Need-time-requires
+time-requires c κs = search needs
+
+enum-told-6 : tie.Need-enum-told-6
+enum-told-6 c = search needs
+
+wrong-requires : tie.Need-wrong-requires
+wrong-requires c κs = search needs
+
+returns : tie.Need-returns
+unfolding valueOf
+returns c =
+    let k = c .before .before .before in
+    c .whole .ensures ∙ rw (c .before .is-version .ensures) (rw (sym (k .before .before .kind-of .ensures) ∙ k .enum-told .given .1, valueOf))
+
+returns-2 : tie.Need-returns-2
+unfolding valueOf
+returns-2 c =
+    let k = c .before .before .before in
+    c .whole2 .ensures ∙ rw (c .before .is-text .ensures) (rw (sym (k .before .before .kind-of .ensures) ∙ k .enum-told2 .given .1, valueOf))
+
+returns-3 : tie.Need-returns-3
+unfolding valueOf
+returns-3 c =
+    let k = c .before .before .before in
+    c .whole3 .ensures ∙ rw (c .before .is-integer .ensures) (rw (sym (k .before .before .kind-of .ensures) ∙ k .enum-told3 .given .1, valueOf))
+
+returns-4 : tie.Need-returns-4
+unfolding valueOf
+returns-4 c = c .number .ensures ∙ rw (sym (c .before .before .before .kind-of .ensures) ∙ c .before .enum-told4 .given .1, valueOf)
+
+returns-5 : tie.Need-returns-5
+unfolding valueOf
+returns-5 c = c .time .ensures ∙ rw (sym (c .before .before .before .kind-of .ensures) ∙ c .before .enum-told5 .given .1, valueOf)
+
+returns-6 : tie.Need-returns-6
+unfolding valueOf
+returns-6 c = c .wrong .ensures ∙ rw (sym (c .before .before .before .kind-of .ensures) ∙ c .before .enum-told6 .given .1, valueOf)
+
+pub value-spec : {M : Type 1} → statement M
+value-spec =
+    tie.close
+    (tie.spec
+    kind-of-requires
+    enum-told
+    sub-is-version
+    part-is-version-start
+    part-is-version-end
+    is-version-requires
+    whole-requires
+    enum-told-2
+    sub-is-text
+    part-is-text-start
+    part-is-text-end
+    is-text-requires
+    whole-requires-2
+    enum-told-3
+    sub-is-integer
+    part-is-integer-start
+    part-is-integer-end
+    is-integer-requires
+    whole-requires-3
+    enum-told-4
+    number-requires
+    enum-told-5
+    time-requires
+    enum-told-6
+    wrong-requires
+    returns
+    returns-2
+    returns-3
+    returns-4
+    returns-5
+    returns-6)

@@ -1,0 +1,33 @@
+-- `step::State::whole` meets its contract.
+-- Assumes nothing.
+use mathlib.Core.Path.{_∙_, ap}
+use borrow.Author.Tests.{not-true, not-false}
+use Rattle.step.specs.Step.{wholeOf, oneRow}
+use borrow.Author.Needs.{needs}
+use Rattle.step.proofs.State.whole.Statement.{statement}
+use Rattle.step.proofs.State.whole.Tie as tie
+use Rattle.step.proofs.State.whole.Reads as reads
+use Rattle.step.proofs.State.whole.Lts as lts
+use Rattle.step.proofs.State.one_row.Reads as one-row-reads
+use Rattle.step.proofs.State.past.Reads as past-reads
+use Rattle.step.proofs.State.wrong.Reads as wrong-reads
+
+wrong-requires : tie.Need-wrong-requires
+wrong-requires c κs = search needs
+
+returns : tie.Need-returns
+unfolding wholeOf
+returns c = c .wrong .ensures ∙ rw (not-true (c .before .before .args .right) (c .before .if1 .taken), wholeOf)
+
+past-requires : tie.Need-past-requires
+past-requires c κs = search needs
+
+one-row-requires : tie.Need-one-row-requires
+one-row-requires c κs = search needs
+
+returns-2 : tie.Need-returns-2
+unfolding wholeOf
+returns-2 c = c .one-row .ensures ∙ rw (c .before .past .ensures) (rw (not-false (c .before .before .before .args .right) (c .before .before .if1 .left), wholeOf))
+
+pub whole-spec : {M : Type 1} → statement M
+whole-spec = tie.close (tie.spec wrong-requires returns past-requires one-row-requires returns-2)

@@ -1,0 +1,58 @@
+-- `step::word_len` meets its contract: a walk along the bytes that are no blank.
+-- Assumes nothing.
+use Prim.Native.Nat.{_+_, _-_}
+use mathlib.Core.Path.{_≡_, refl}
+use native.Mathlib.Omega.{arith}
+use lib.ListN.{length, drop}
+use Rattle.words.proofs.Laws.{walk-more, walk-stop, walk-end}
+use borrow.Author.Tests.{eq-eqb, ne-eqb}
+use Rattle.step.specs.Step.{wordLen}
+use Rattle.step.proofs.word_len.Statement.{statement}
+use Rattle.step.proofs.word_len.Tie as tie
+use Rattle.step.proofs.word_len.Reads as reads
+use Rattle.step.proofs.word_len.Lts as lts
+
+abbrev Inv-loop : tie.InvT-loop
+Inv-loop text i₀ i = wordLen text ≡ i + wordLen (drop i text)
+
+abbrev μ-loop : tie.MeasureT-loop
+μ-loop text i₀ i = length text - i
+
+loop-holds : tie.Need-loop-holds Inv-loop μ-loop
+loop-holds c = omega arith
+
+shared-slice-read-if1 : tie.Need-shared-slice-read-if1 Inv-loop μ-loop
+shared-slice-read-if1 c = omega arith
+
+returns : tie.Need-returns Inv-loop μ-loop
+returns c =
+    let l = c .before .before in
+    walk-stop _ _ _ _ (l .before .loop .inv) (l .loop-test .taken) (simp (eq-eqb _ _ (c .if1 .taken)))
+
+add-i : tie.Need-add-i Inv-loop μ-loop
+add-i c = omega arith
+
+loop-less : tie.Need-loop-less Inv-loop μ-loop
+loop-less c = omega arith
+
+loop-again : tie.Need-loop-again Inv-loop μ-loop
+loop-again c =
+    let l = c .before .before in
+    walk-more _ _ _ _ (l .before .loop .inv) (l .loop-test .taken) (simp (ne-eqb _ _ (c .if1 .left)))
+
+returns-2 : tie.Need-returns-2 Inv-loop μ-loop
+returns-2 c = walk-end _ _ _ _ (c .before .loop .inv) (c .loop-test .left)
+
+pub word-len-spec : {M : Type 1} → statement M
+word-len-spec =
+    tie.close
+    (tie.spec
+    Inv-loop
+    μ-loop
+    loop-holds
+    shared-slice-read-if1
+    returns
+    add-i
+    loop-less
+    loop-again
+    returns-2)
