@@ -15,13 +15,13 @@ ghost use Rattle.judge.specs.Message.{isHeading, formOf, headings, upTo,
 
 // Accepted with its row count, or a reason and a line.
 pub enum Judged {
-    Accepted(usize),
-    Refused(Reason, usize),
+    Accepted(u32),
+    Refused(Reason, u32),
 }
 
 // How many headings a feed has, or why they are not counted.
 pub enum Counted {
-    Headings(usize),
+    Headings(u32),
     Barred(Reason),
 }
 
@@ -100,10 +100,11 @@ pub fn find_message(feed: &[u8], message: usize) -> Found
 }
 
 // How many heading lines a feed has.
-fn headings_in(feed: &[u8]) -> usize
+fn headings_in(feed: &[u8]) -> u32
+    requires { ⌜ length (now feed) ≤ 65535 ⌝ }
     ensures { λ r. ⌜ r ≡ headings (lines (now (feed .entry))) ⌝ }
 {
-    let mut n = 0;
+    let mut n: u32 = 0;
     let mut at = 0;
     while at < feed.len() {
         let ends = lines::line_at(feed, at);
@@ -172,7 +173,7 @@ fn over(at: usize, state: State) -> Moved
 }
 
 // At the end of a message: the rows, or SHORT at the line after the last.
-fn end_of(state: State, line: usize, rows: usize) -> Judged
+fn end_of(state: State, line: u32, rows: u32) -> Judged
     ensures { λ r. ⌜ r ≡ endOf state line rows ⌝ }
 {
     let form = state.form;
@@ -188,8 +189,8 @@ fn judge_from(feed: &[u8], from: usize, form: Form) -> Judged
     ensures { λ r. ⌜ r ≡ judgeTexts (freshState form) 1 0 (texts (upTo true (linesAt from (drop from (now (feed .entry)))))) ⌝ }
 {
     let mut at = from;
-    let mut line = 1;
-    let mut rows = 0;
+    let mut line: u32 = 1;
+    let mut rows: u32 = 0;
     let mut state = State::fresh(form);
     loop {
         let moved = next_line(feed, at, line == 1, state);
@@ -200,7 +201,7 @@ fn judge_from(feed: &[u8], from: usize, form: Form) -> Judged
             Met::Within => {}
         }
         let step = moved.step;
-        rows += step.count;
+        rows += step.count as u32;
         line += 1;
         state = step.state;
         at = moved.next;

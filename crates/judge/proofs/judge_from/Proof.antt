@@ -66,6 +66,9 @@ returns-2 c =
 enum-told-2 : tie.Need-enum-told-2 Inv-loop μ-loop
 enum-told-2 c = search needs
 
+cast-rows : tie.Need-cast-rows Inv-loop μ-loop
+cast-rows c = omega (arith, step-on (c .before .before))
+
 add-rows : tie.Need-add-rows Inv-loop μ-loop
 add-rows c = omega (arith, step-on (c .before .before))
 
@@ -102,6 +105,7 @@ judge-from-spec =
     enum-known-met
     returns-2
     enum-told-2
+    cast-rows
     add-rows
     add-line
     loop-less
