@@ -1,0 +1,19 @@
+# Sourced by the gate and the Makefile: which compilers build for the archive's processor (x86-64), and what runs their programs here.
+# On another processor they are Debian's cross compilers and its user-mode emulator, installed where they are missing.
+if [ "$(uname -m)" = x86_64 ]; then
+  CC=${CC:-gcc} CXX=${CXX:-g++} RUN=
+else
+  CC=x86_64-linux-gnu-gcc CXX=x86_64-linux-gnu-g++ RUN=qemu-x86_64
+fi
+
+host_tools() { # install what is missing
+  if ! command -v "$CC" >/dev/null || ! command -v "$CXX" >/dev/null || { [ -n "$RUN" ] && ! command -v "$RUN" >/dev/null; }; then
+    echo "installing the compilers and the emulator for x86-64"
+    apt-get update -qq >/dev/null 2>&1
+    if [ -n "$RUN" ]; then
+      DEBIAN_FRONTEND=noninteractive apt-get install -y -qq gcc-x86-64-linux-gnu g++-x86-64-linux-gnu qemu-user >/dev/null
+    else
+      DEBIAN_FRONTEND=noninteractive apt-get install -y -qq gcc g++ >/dev/null
+    fi
+  fi
+}

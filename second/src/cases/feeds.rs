@@ -1,0 +1,208 @@
+//! Cases about whole feeds: figures, message numbers, headings, several messages, and sizes.
+
+use super::{oem, opm, row, wide_opm, Book, Sheet, Want};
+use crate::judge::Reason::{self, *};
+
+/// The figures of document 002 as printed.
+pub(super) fn figures(book: &mut Book) {
+    book.stands("figure 3-1", include_bytes!("../../../examples/figure-3-1.opm").to_vec(), 27);
+    book.stands("figure 3-2", include_bytes!("../../../examples/figure-3-2.opm").to_vec(), 51);
+    book.falls(
+        "figure 4-1 as printed, at its first line of omission",
+        include_bytes!("../../../examples/figure-4-1.oem").to_vec(),
+        Value,
+        26,
+    );
+    book.stands("figure 4-1 without its lines of omission", include_bytes!("../../../examples/figure-4-1-whole.oem").to_vec(), 88);
+    let pair = include_bytes!("../../../examples/damaged-pair.feed").to_vec();
+    book.add("damaged pair, first message", pair.clone(), Ok(2), 1, Want::Refused(Value, 11));
+    book.add("damaged pair, second message", pair, Ok(2), 2, Want::Accepted { rows: 27, shown: Vec::new() });
+}
+
+/// Document 01's feed, all its rows, and its variants.
+pub(super) fn full_feed(book: &mut Book) {
+    let rows: [[u16; 5]; 19] = [
+        [36, 0, 1, 15, 3],
+        [2, 0, 2, 33, 19],
+        [3, 0, 3, 64, 1],
+        [37, 1, 4, 76, 0],
+        [4, 1, 5, 89, 1],
+        [5, 1, 6, 101, 1],
+        [6, 1, 7, 115, 1],
+        [7, 1, 8, 127, 1],
+        [8, 1, 9, 141, 3],
+        [38, 1, 10, 156, 17],
+        [41, 1, 11, 184, 17],
+        [44, 1, 12, 211, 0],
+        [9, 1, 13, 212, 19],
+        [10, 1, 13, 232, 1],
+        [11, 1, 13, 234, 1],
+        [12, 1, 13, 236, 1],
+        [13, 1, 13, 238, 1],
+        [14, 1, 13, 240, 1],
+        [15, 1, 13, 242, 1],
+    ];
+    let feed: Vec<u8> = oem().into();
+    assert_eq!(feed.len(), 244, "document 01's feed has 244 bytes");
+    let shown: Vec<(usize, [u16; 5])> = rows.into_iter().enumerate().collect();
+    book.shows("the feed in full", feed, 19, &shown);
+    book.falls("the feed without line 13", oem().drop(13), Short, 13);
+    book.falls("the feed with line 12 twice", oem().twice(12), Order, 13);
+}
+
+/// Message numbers that no message has.
+pub(super) fn numbers_of_messages(book: &mut Book) {
+    let none = |book: &mut Book, name: &str, message: u64| {
+        book.add(name, oem().into(), Ok(1), message, Want::Refused(NoMessage, 0));
+    };
+    none(book, "message 0", 0);
+    none(book, "message 2 of one", 2);
+    none(book, "message 3 of one", 3);
+    none(book, "message 65536", 65_536);
+    none(book, "message 65537, 1 in 16 bits", 65_537);
+    none(book, "message 4294967295", 4_294_967_295);
+    none(book, "message 4294967297, 1 in 32 bits", 4_294_967_297);
+    none(book, "message 2 to the 63rd", 1 << 63);
+    none(book, "the greatest message number", u64::MAX);
+    for message in [0, 1, u64::MAX] {
+        book.add(&format!("empty feed, message {message}"), Vec::new(), Ok(0), message, Want::Refused(NoMessage, 0));
+    }
+    book.add("one LF, message 1", b"\n".to_vec(), Ok(0), 1, Want::Refused(NoMessage, 0));
+    book.add("text without a heading", b"X = 1\n".to_vec(), Ok(0), 1, Want::Refused(NoMessage, 0));
+}
+
+/// Which lines are headings, and what is wrong with them then.
+pub(super) fn headings(book: &mut Book) {
+    let no_heading = |book: &mut Book, text: &str| {
+        let feed = oem().put(1, text).into();
+        book.add(&format!("no heading: {text:?}"), feed, Ok(0), 1, Want::Refused(NoMessage, 0));
+    };
+    for text in [
+        "CCSDS_OEM_VERS", "CCSDS_OEM_VERS 1.0", "CCSDS_OEM_VER=1.0", "CCSDS_OEM_VERSION=1.0", "ccsds_oem_vers=1.0", "CCSDS_OMM_VERS=1.0",
+        "CCSDS_OCM_VERS=1.0",
+    ] {
+        no_heading(book, text);
+    }
+    for text in [
+        "CCSDS OEM VERS=1.0", "\tCCSDS_OEM_VERS=1.0", "CCSDS_OEM_VERS\t=1.0", "CCSDS_OEM_VERS x=1.0", "=CCSDS_OEM_VERS=1.0",
+        "COMMENT CCSDS_OEM_VERS=1.0", "_CCSDS_OEM_VERS=1.0", "",
+    ] {
+        no_heading(book, text);
+    }
+    let stands = |book: &mut Book, text: &str| book.stands(&format!("heading {text:?}"), oem().put(1, text), 19);
+    for text in ["CCSDS_OEM_VERS = 1.0", "   CCSDS_OEM_VERS=1.0", "CCSDS_OEM_VERS    =    1.0   ", "          CCSDS_OEM_VERS          =1.0"]
+    {
+        stands(book, text);
+    }
+    let falls = |book: &mut Book, text: &str, reason: Reason| book.falls(&format!("heading {text:?}"), oem().put(1, text), reason, 1);
+    for text in [
+        "CCSDS_OEM_VERS=", "CCSDS_OEM_VERS=   ", "CCSDS_OEM_VERS=2.0", "CCSDS_OEM_VERS=1", "CCSDS_OEM_VERS=1.00", "CCSDS_OEM_VERS=01.0",
+        "CCSDS_OEM_VERS=+1.0",
+    ] {
+        falls(book, text, Value);
+    }
+    for text in [
+        "CCSDS_OEM_VERS=1.0 [KM]", "CCSDS_OEM_VERS==1.0", "CCSDS_OEM_VERS=1.0=", "CCSDS_OEM_VERS=1 .0", "CCSDS_OEM_VERS=1.0 x",
+        "CCSDS_OEM_VERS=1.1",
+    ] {
+        falls(book, text, Value);
+    }
+    for text in ["CCSDS_OEM_VERS=1.0\t", "CCSDS_OEM_VERS=\u{0}", "  CCSDS_OEM_VERS =1.0\u{7f}"] {
+        falls(book, text, Byte);
+    }
+    book.falls("heading of 255 bytes", oem().put(1, format!("{:255}", "CCSDS_OEM_VERS=1.0")), Long, 1);
+    book.stands("heading of 254 bytes", oem().put(1, format!("{:254}", "CCSDS_OEM_VERS=1.0")), 19);
+    book.falls("heading after 300 blanks", oem().put(1, format!("{:300}CCSDS_OEM_VERS=1.0", "")), Long, 1);
+    book.falls("heading whose sign is the 300th byte", oem().put(1, format!("{:299}=1.0", "CCSDS_OEM_VERS")), Long, 1);
+    book.falls("long heading with a bad byte", oem().put(1, format!("{:300}\t", "CCSDS_OEM_VERS=1.0")), Long, 1);
+    book.falls("OPM heading over an OEM's lines", oem().put(1, "CCSDS_OPM_VERS=1.0"), Form, 4);
+    book.falls("OEM heading over an OPM's lines", opm().put(1, "CCSDS_OEM_VERS=1.0"), Order, 4);
+    book.falls("OPM heading of a wrong version", opm().put(1, "CCSDS_OPM_VERS=3.0"), Value, 1);
+    book.falls("a heading alone", Sheet::of(&["CCSDS_OPM_VERS=1.0"]), Short, 2);
+    book.falls("a heading alone, without an ending", b"CCSDS_OEM_VERS=1.0".to_vec(), Short, 2);
+}
+
+fn joined(sheets: &[Sheet]) -> Vec<u8> {
+    sheets.iter().flat_map(|sheet| sheet.ended(b"\n")).collect()
+}
+
+/// Several messages to a feed, and bytes before the first.
+pub(super) fn several_messages(book: &mut Book) {
+    let accepted = |rows| Want::Accepted { rows, shown: Vec::new() };
+    let two = joined(&[opm(), oem()]);
+    book.add("OPM and OEM, message 1", two.clone(), Ok(2), 1, accepted(20));
+    book.add("OPM and OEM, message 2", two.clone(), Ok(2), 2, accepted(19));
+    book.add("OPM and OEM, message 3", two.clone(), Ok(2), 3, Want::Refused(NoMessage, 0));
+    book.add("OPM and OEM, message 0", two, Ok(2), 0, Want::Refused(NoMessage, 0));
+    let short = joined(&[wide_opm().keep(30), oem(), opm().drop(3)]);
+    book.add("three messages, the first short", short.clone(), Ok(3), 1, Want::Refused(Short, 31));
+    book.add("three messages, the second sound", short.clone(), Ok(3), 2, accepted(19));
+    book.add("three messages, the third out of order", short, Ok(3), 3, Want::Refused(Order, 3));
+    let gap = joined(&[oem().drop(13).add("").add("   "), oem()]);
+    book.add("blank lines before the next heading count for the first", gap.clone(), Ok(2), 1, Want::Refused(Short, 15));
+    book.add("blank lines before a heading are not its own", gap, Ok(2), 2, accepted(19));
+    let twice = oem().twice(1);
+    book.add("heading twice, message 1", twice.clone().into(), Ok(2), 1, Want::Refused(Short, 2));
+    book.add("heading twice, message 2", twice.into(), Ok(2), 2, accepted(19));
+    let inner = opm().insert(11, "CCSDS_OPM_VERS = 1.0");
+    book.add("heading within an OPM, message 1", inner.clone().into(), Ok(2), 1, Want::Refused(Short, 11));
+    book.add("heading within an OPM, message 2", inner.into(), Ok(2), 2, Want::Refused(Order, 2));
+    let late = oem().add("CCSDS_OEM_VERS=");
+    book.add("heading after a sound message, message 1", late.clone().into(), Ok(2), 1, accepted(19));
+    book.add("heading after a sound message, message 2", late.into(), Ok(2), 2, Want::Refused(Value, 1));
+    let bad_second = joined(&[oem(), oem().put(1, format!("{:300}", "CCSDS_OEM_VERS=1.0"))]);
+    book.add("a long heading ends the message before it", bad_second.clone(), Ok(2), 1, accepted(19));
+    book.add("a long heading begins its own message", bad_second, Ok(2), 2, Want::Refused(Long, 1));
+    garbage(book);
+}
+
+fn garbage(book: &mut Book) {
+    let every_byte: Vec<u8> = (0..=255).collect();
+    let shown = vec![(0, row([36, 0, 1, 272, 3])), (18, row([15, 1, 13, 499, 1]))];
+    book.add(
+        "every byte before the heading",
+        [&every_byte[..], b"\n", &oem().ended(b"\n")].concat(),
+        Ok(1),
+        1,
+        Want::Accepted { rows: 19, shown },
+    );
+    book.stands("a long line before the heading", [&[b'x'; 999][..], b"\r", &oem().ended(b"\n")].concat(), 19);
+    book.stands("blank lines before the heading", [b"\n\r\n \n", &oem().ended(b"\n")[..]].concat(), 19);
+    book.stands("a comment before the heading", [b"COMMENT x\n", &oem().ended(b"\n")[..]].concat(), 19);
+    book.stands("nearly a heading before the heading", [b"CCSDS_OPM_VERS\n", &oem().ended(b"\n")[..]].concat(), 19);
+    let joined = [b"x", &oem().ended(b"\n")[..]].concat();
+    book.add("a byte in front of the heading on its line", joined, Ok(0), 1, Want::Refused(NoMessage, 0));
+}
+
+/// Feeds about the limit of 65,535 bytes; the full feed takes 244 of them.
+pub(super) fn sizes(book: &mut Book) {
+    let with = |tail: Vec<u8>| [oem().ended(b"\n"), tail].concat();
+    for size in [65_534, 65_535] {
+        book.stands(&format!("feed of {size} bytes, filled with LF"), with(vec![b'\n'; size - 244]), 19);
+    }
+    for size in [65_536, 65_537, 70_000, 131_072] {
+        for message in [1, 0] {
+            let feed = with(vec![b'\n'; size - 244]);
+            book.add(&format!("feed of {size} bytes, message {message}"), feed, Err(FeedLong), message, Want::Refused(FeedLong, 0));
+        }
+    }
+    book.add("65,536 bytes without a heading", vec![b' '; 65_536], Err(FeedLong), 1, Want::Refused(FeedLong, 0));
+    book.add("65,535 bytes without a heading", vec![b' '; 65_535], Ok(0), 1, Want::Refused(NoMessage, 0));
+    book.add("65,535 line endings", vec![b'\r'; 65_535], Ok(0), 1, Want::Refused(NoMessage, 0));
+    // Line 14 begins at 244; each LF up to 65,534 ends one line, and the last byte is a line of its own.
+    book.falls("a wrong line with a great number", with([vec![b'\n'; 65_290], b"x".to_vec()].concat()), Form, 65_304);
+    book.falls("short at a great line number", [oem().drop(13).ended(b"\n"), vec![b'\n'; 65_323]].concat(), Short, 65_336);
+    // The last comment's value is the last byte of the greatest feed.
+    let comment = with([vec![b'\n'; 65_282], b"COMMENT x".to_vec()].concat());
+    book.shows("a value that is the feed's last byte", comment, 20, &[(19, [45, 1, 65_296, 65_534, 1])]);
+    let empty = with([vec![b'\n'; 65_284], b"COMMENT".to_vec()].concat());
+    book.shows("an empty value at the feed's end", empty, 20, &[(19, [45, 1, 65_298, 65_535, 0])]);
+    let long_tail = with([vec![b'\n'; 65_291 - 255], vec![b' '; 255]].concat());
+    book.falls("a long last line in the greatest feed", long_tail, Long, 65_050);
+    let messages = b"CCSDS_OPM_VERS=\n".repeat(4_095);
+    book.add("4,095 headings, the last", messages.clone(), Ok(4_095), 4_095, Want::Refused(Value, 1));
+    book.add("4,095 headings, one more", messages, Ok(4_095), 4_096, Want::Refused(NoMessage, 0));
+    let data: String = (0..2_000).map(|at| format!("2000-001T00:{:02}:{:02} 1 2 3 4 5 6\n", at / 60, at % 60)).collect();
+    let many = oem().put(11, "STOP_TIME=2000-002T00:00:00").drop(13).ended(b"\n");
+    book.stands("2,000 data lines", [many, data.into_bytes()].concat(), 14_012);
+}

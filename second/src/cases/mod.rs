@@ -1,0 +1,226 @@
+//! Fixed cases: the figures of document 002, and every edge of document 01, each with its answer written by hand.
+
+mod feeds;
+mod lines;
+mod orders;
+mod values;
+
+use crate::judge::{Reason, Row};
+
+/// The answer that a case must get.
+#[derive(Clone, Debug)]
+pub enum Want {
+    /// Accepted with so many rows; the rows shown must stand at their row numbers.
+    Accepted {
+        rows: usize,
+        shown: Vec<(usize, Row)>,
+    },
+    Refused(Reason, usize),
+}
+
+/// One feed, one message of it, and the answer.
+#[derive(Clone, Debug)]
+pub struct Case {
+    pub name: String,
+    pub feed: Vec<u8>,
+    /// What counting headings must say.
+    pub headings: Result<usize, Reason>,
+    pub message: u64,
+    pub want: Want,
+}
+
+/// All fixed cases.
+pub fn all() -> Vec<Case> {
+    let mut book = Book { cases: Vec::new() };
+    feeds::figures(&mut book);
+    feeds::full_feed(&mut book);
+    feeds::numbers_of_messages(&mut book);
+    feeds::headings(&mut book);
+    feeds::several_messages(&mut book);
+    feeds::sizes(&mut book);
+    lines::endings(&mut book);
+    lines::long_lines(&mut book);
+    lines::bad_bytes(&mut book);
+    lines::blanks(&mut book);
+    lines::comments(&mut book);
+    lines::marks(&mut book);
+    lines::forms(&mut book);
+    lines::keywords(&mut book);
+    orders::opm_order(&mut book);
+    orders::oem_order(&mut book);
+    orders::first_reasons(&mut book);
+    orders::groups(&mut book);
+    values::numbers(&mut book);
+    values::integers(&mut book);
+    values::epochs(&mut book);
+    values::texts(&mut book);
+    values::units(&mut book);
+    values::bounds(&mut book);
+    values::data_times(&mut book);
+    book.cases
+}
+
+/// The cases as they are gathered.
+struct Book {
+    cases: Vec<Case>,
+}
+
+impl Book {
+    fn add(&mut self, name: &str, feed: Vec<u8>, headings: Result<usize, Reason>, message: u64, want: Want) {
+        self.cases.push(Case { name: name.to_string(), feed, headings, message, want });
+    }
+
+    /// A feed of one message that is accepted.
+    fn stands(&mut self, name: &str, feed: impl Into<Vec<u8>>, rows: usize) {
+        self.add(name, feed.into(), Ok(1), 1, Want::Accepted { rows, shown: Vec::new() });
+    }
+
+    /// A feed of one message that is refused.
+    fn falls(&mut self, name: &str, feed: impl Into<Vec<u8>>, reason: Reason, line: usize) {
+        self.add(name, feed.into(), Ok(1), 1, Want::Refused(reason, line));
+    }
+
+    /// A feed of one message that is accepted, with some of its rows.
+    fn shows(&mut self, name: &str, feed: impl Into<Vec<u8>>, rows: usize, shown: &[(usize, [u16; 5])]) {
+        let shown = shown.iter().map(|(at, numbers)| (*at, row(*numbers))).collect();
+        self.add(name, feed.into(), Ok(1), 1, Want::Accepted { rows, shown });
+    }
+}
+
+fn row([code, group, line, start, length]: [u16; 5]) -> Row {
+    Row { code, group, line, start, length }
+}
+
+/// A message as lines that can be changed by their number, from 1.
+#[derive(Clone)]
+struct Sheet(Vec<Vec<u8>>);
+
+impl Sheet {
+    fn of(lines: &[&str]) -> Sheet {
+        Sheet(lines.iter().map(|line| line.as_bytes().to_vec()).collect())
+    }
+
+    fn put(mut self, line: usize, text: impl AsRef<[u8]>) -> Sheet {
+        self.0[line - 1] = text.as_ref().to_vec();
+        self
+    }
+
+    /// The text becomes line number `line`, and what stood there moves down.
+    fn insert(mut self, line: usize, text: impl AsRef<[u8]>) -> Sheet {
+        self.0.insert(line - 1, text.as_ref().to_vec());
+        self
+    }
+
+    fn drop(mut self, line: usize) -> Sheet {
+        self.0.remove(line - 1);
+        self
+    }
+
+    fn twice(self, line: usize) -> Sheet {
+        let text = self.0[line - 1].clone();
+        self.insert(line, text)
+    }
+
+    fn add(mut self, text: impl AsRef<[u8]>) -> Sheet {
+        self.0.push(text.as_ref().to_vec());
+        self
+    }
+
+    fn keep(mut self, lines: usize) -> Sheet {
+        self.0.truncate(lines);
+        self
+    }
+
+    fn ended(&self, ending: &[u8]) -> Vec<u8> {
+        self.0.iter().flat_map(|line| [line, ending].concat()).collect()
+    }
+
+    /// The lines with these endings in turn, again and again.
+    fn ended_in_turn(&self, endings: &[&[u8]]) -> Vec<u8> {
+        self.0.iter().zip(endings.iter().cycle()).flat_map(|(line, ending)| [line, *ending].concat()).collect()
+    }
+}
+
+impl From<Sheet> for Vec<u8> {
+    fn from(sheet: Sheet) -> Vec<u8> {
+        sheet.ended(b"\n")
+    }
+}
+
+/// Document 01's feed in full: thirteen lines, 244 bytes, 19 rows.
+fn oem() -> Sheet {
+    Sheet::of(&[
+        "CCSDS_OEM_VERS=1.0", "CREATION_DATE=2000-01-01T00:00:00", "ORIGINATOR=A", "META_START", "OBJECT_NAME=B", "OBJECT_ID=C",
+        "CENTER_NAME=D", "REF_FRAME=E", "TIME_SYSTEM=UTC", "START_TIME=2000-001T00:00:00", "STOP_TIME=2000-001T00:00:00", "META_STOP",
+        "2000-01-01T00:00:00 1 2 3 4 5 6",
+    ])
+}
+
+/// An OEM of two segments with every option: META_START at 4 and 20, data at 17, 18, 19 and 29, 30; 60 rows.
+fn wide_oem() -> Sheet {
+    Sheet::of(&[
+        "CCSDS_OEM_VERS=1.0", "CREATION_DATE=2000-01-01T00:00:00", "ORIGINATOR=A", "META_START", "OBJECT_NAME=B", "OBJECT_ID=C",
+        "CENTER_NAME=D", "REF_FRAME=E", "TIME_SYSTEM=UTC", "START_TIME=2000-01-01T00:00:00", "USEABLE_START_TIME=2000-01-02T00:00:00",
+        "USEABLE_STOP_TIME=2000-01-03T00:00:00", "STOP_TIME=2000-01-04T00:00:00", "INTERPOLATION=Hermite", "INTERPOLATION_DEGREE=7",
+        "META_STOP", "2000-01-01T00:00:00 1 2 3 4 5 6", "2000-01-02T00:00:00 1 2 3 4 5 6", "2000-01-04T00:00:00 1 2 3 4 5 6", "META_START",
+        "OBJECT_NAME=B", "OBJECT_ID=C", "CENTER_NAME=D", "REF_FRAME=E", "TIME_SYSTEM=UTC", "START_TIME=2000-01-01T00:00:00",
+        "STOP_TIME=2000-01-04T00:00:00", "META_STOP", "2000-01-01T00:00:00 1 2 3 4 5 6", "2000-01-02T00:00:00 1 2 3 4 5 6",
+    ])
+}
+
+/// An OPM with nothing optional: 20 lines, 20 rows.
+fn opm() -> Sheet {
+    Sheet::of(&[
+        "CCSDS_OPM_VERS=1.0", "CREATION_DATE=2000-01-01T00:00:00", "ORIGINATOR=A", "OBJECT_NAME=B", "OBJECT_ID=C", "CENTER_NAME=D",
+        "REF_FRAME=E", "TIME_SYSTEM=UTC", "EPOCH=2000-01-01T00:00:00", "X=1", "Y=2", "Z=3", "X_DOT=4", "Y_DOT=5", "Z_DOT=6", "MASS=7",
+        "SOLAR_RAD_AREA=8", "SOLAR_RAD_COEFF=9", "DRAG_AREA=10", "DRAG_COEFF=11",
+    ])
+}
+
+/// An OPM with Keplerian elements (16 to 22), the craft (23 to 27) and two sets (28 to 34, 35 to 41): 41 lines, 41 rows.
+fn wide_opm() -> Sheet {
+    let kepler =
+        ["SEMI_MAJOR_AXIS=1", "ECCENTRICITY=2", "INCLINATION=3", "RA_OF_ASC_NODE=4", "ARG_OF_PERICENTER=5", "TRUE_ANOMALY=6", "GM=7"];
+    let set = [
+        "MAN_EPOCH_IGNITION=2000-001T00:00:00", "MAN_DURATION=1", "MAN_DELTA_MASS=2", "MAN_REF_FRAME=F", "MAN_DV_1=3", "MAN_DV_2=4",
+        "MAN_DV_3=5",
+    ];
+    let mut lines = opm().0;
+    lines.splice(15..15, kepler.iter().map(|line| line.as_bytes().to_vec()));
+    lines.extend(set.iter().chain(&set).map(|line| line.as_bytes().to_vec()));
+    Sheet(lines)
+}
+
+#[cfg(test)]
+mod tests {
+    use super::*;
+    use crate::judge::{Answer, Feed};
+
+    #[test]
+    fn names_differ() {
+        let mut names: Vec<String> = all().into_iter().map(|case| case.name).collect();
+        let count = names.len();
+        names.sort();
+        names.dedup();
+        assert_eq!(names.len(), count);
+        assert!(count >= 120);
+    }
+
+    #[test]
+    fn the_judge_gives_the_answers_written_by_hand() {
+        for case in all() {
+            let feed = Feed::new(&case.feed);
+            assert_eq!(feed.headings(), case.headings, "{}", case.name);
+            match (feed.judge(case.message), case.want) {
+                (Answer::Refused { reason, line }, want) => {
+                    assert!(matches!(want, Want::Refused(r, l) if r == reason && l == line), "{}: {} at {line}", case.name, reason.name())
+                }
+                (Answer::Accepted(got), Want::Accepted { rows, shown }) => {
+                    assert_eq!(got.len(), rows, "{}", case.name);
+                    shown.iter().for_each(|(at, row)| assert_eq!(got[*at], *row, "{}", case.name));
+                }
+                (Answer::Accepted(_), Want::Refused(..)) => panic!("{}: accepted", case.name),
+            }
+        }
+    }
+}

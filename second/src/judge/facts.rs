@@ -1,0 +1,101 @@
+//! A message as a list of facts: one for each line that says something, in reading order.
+
+use super::cut::Cut;
+use super::order::speaks_of;
+use super::sort::{sort, Sort};
+use super::words::{named, Wanted, Word};
+use super::{Kind, Reason};
+
+/// What a line says.
+#[derive(Debug)]
+pub enum What<'f> {
+    /// LONG, BYTE, FORM or KEYWORD: the line itself is wrong.
+    Wrong(Reason),
+    Comment(Cut<'f>),
+    Mark(u8, Cut<'f>),
+    /// A keyword with its value and what stands after a number.
+    Assigned {
+        word: &'static Word,
+        value: Cut<'f>,
+        rest: Cut<'f>,
+    },
+    Data([Cut<'f>; 7]),
+}
+
+/// What a line says, and which line of the message it is, from 1.
+#[derive(Debug)]
+pub struct Fact<'f> {
+    pub line: usize,
+    pub what: What<'f>,
+}
+
+/// The facts of a message; blank lines are counted but say nothing.
+pub fn facts<'f>(kind: Kind, lines: &[Cut<'f>]) -> Vec<Fact<'f>> {
+    (1..).zip(lines).filter_map(|(line, text)| what(kind, *text).map(|what| Fact { line, what })).collect()
+}
+
+fn what(kind: Kind, line: Cut<'_>) -> Option<What<'_>> {
+    Some(match sort(line, kind) {
+        Sort::Blank => return None,
+        Sort::Long => What::Wrong(Reason::Long),
+        Sort::Byte => What::Wrong(Reason::Byte),
+        Sort::Formless => What::Wrong(Reason::Form),
+        Sort::Comment(value) => What::Comment(value),
+        Sort::Mark(code, past) => What::Mark(code, past),
+        Sort::Data(fields) => What::Data(fields),
+        Sort::Assignment { keyword, field } => assigned(kind, keyword, field),
+    })
+}
+
+fn assigned<'f>(kind: Kind, keyword: Cut<'f>, field: Cut<'f>) -> What<'f> {
+    match named(keyword.text) {
+        Some(word) if word.wanted != Wanted::Nothing && speaks_of(kind, word.code) => {
+            let (value, rest) = value_and_rest(word, field);
+            What::Assigned { word, value, rest }
+        }
+        _ => What::Wrong(Reason::Keyword),
+    }
+}
+
+/// A number runs to the first blank; any other value is the whole field.
+fn value_and_rest<'f>(word: &Word, field: Cut<'f>) -> (Cut<'f>, Cut<'f>) {
+    let size = field.text.len();
+    match (word.wanted, field.first_field()) {
+        (Wanted::Number(_), Some((number, rest))) => (number, rest.trimmed()),
+        _ => (field, field.part(size, size)),
+    }
+}
+
+#[cfg(test)]
+mod tests {
+    use super::*;
+
+    fn one(kind: Kind, text: &[u8]) -> Option<What<'_>> {
+        what(kind, Cut { at: 0, text })
+    }
+
+    fn is_wrong(what: Option<What>, reason: Reason) -> bool {
+        matches!(what, Some(What::Wrong(found)) if found == reason)
+    }
+
+    #[test]
+    fn keywords_belong_to_a_type() {
+        assert!(matches!(one(Kind::Opm, b"EPOCH=1"), Some(What::Assigned { .. })));
+        assert!(is_wrong(one(Kind::Oem, b"EPOCH=1"), Reason::Keyword));
+        assert!(is_wrong(one(Kind::Opm, b"START_TIME=1"), Reason::Keyword));
+        assert!(is_wrong(one(Kind::Oem, b"META_START=1"), Reason::Keyword));
+        assert!(is_wrong(one(Kind::Oem, b"COMMENT=1"), Reason::Keyword));
+        assert!(is_wrong(one(Kind::Opm, b"=1"), Reason::Keyword));
+        assert!(one(Kind::Opm, b"   ").is_none());
+    }
+
+    #[test]
+    fn only_numbers_leave_a_rest() {
+        let Some(What::Assigned { value, rest, .. }) = one(Kind::Opm, b"X = 5  [KM] ") else { panic!("not assigned") };
+        assert_eq!((value.text, rest.text), (&b"5"[..], &b"[KM]"[..]));
+        let Some(What::Assigned { value, rest, .. }) = one(Kind::Opm, b"OBJECT_NAME = a  b ") else { panic!("not assigned") };
+        assert_eq!((value.text, rest.text), (&b"a  b"[..], &b""[..]));
+        let Some(What::Assigned { value, rest, .. }) = one(Kind::Opm, b"X = ") else { panic!("not assigned") };
+        assert_eq!((value.text, rest.text), (&b""[..], &b""[..]));
+    }
+}

@@ -1,0 +1,172 @@
+//! Every fault that a message's facts show; the least by line and then by number is the one to name.
+//! A fault may be found after an earlier one has spoiled the message: the earlier one is less, so it doesn't matter.
+//! For that, what is found at a line must rest on the lines up to it alone.
+
+use super::cut::Cut;
+use super::facts::{Fact, What};
+use super::order::{fit, Fit};
+use super::shape::{is_epoch, is_integer, is_number, is_text, is_version, moment, Moment};
+use super::words::{coded, Wanted, Word, DATA_FIELDS, DATA_LINE, META_START, START_TIME, STOP_TIME};
+use super::{Kind, Reason};
+
+/// A line of the message and why it offends.
+pub type Fault = (usize, Reason);
+
+/// The fault to name, if there is any.
+pub fn least(kind: Kind, facts: &[Fact], lines: usize) -> Option<Fault> {
+    let each_line = facts.iter().filter_map(line_fault);
+    let parted = (0..facts.len()).filter_map(|at| parted_data(facts, at));
+    let order = order_fault(kind, facts, lines);
+    let segments = facts.split(|fact| matches!(fact.what, What::Mark(META_START, _)));
+    let times = segments.flat_map(time_faults);
+    each_line.chain(parted).chain(order).chain(times).min()
+}
+
+/// What a line shows by itself: wrong in form or keyword, value, or unit.
+fn line_fault(fact: &Fact) -> Option<Fault> {
+    let reason = match &fact.what {
+        What::Wrong(reason) => *reason,
+        What::Assigned { word, value, .. } if !value_stands(word, value) => Reason::Value,
+        What::Assigned { word, rest, .. } if !unit_stands(word, rest) => Reason::Unit,
+        What::Data(fields) if !fields_stand(fields) => Reason::Value,
+        _ => return None,
+    };
+    Some((fact.line, reason))
+}
+
+fn value_stands(word: &Word, value: &Cut) -> bool {
+    match word.wanted {
+        Wanted::Version => is_version(value.text),
+        Wanted::Text => is_text(value.text),
+        Wanted::Integer => is_integer(value.text),
+        Wanted::Number(_) => is_number(value.text),
+        Wanted::Epoch => is_epoch(value.text),
+        Wanted::Nothing => false,
+    }
+}
+
+/// Nothing after a number stands always; anything else must be the unit, and a code without one has none to match.
+fn unit_stands(word: &Word, rest: &Cut) -> bool {
+    match word.wanted {
+        Wanted::Number(unit) => rest.text.is_empty() || rest.text == unit.as_bytes(),
+        _ => true,
+    }
+}
+
+fn fields_stand(fields: &[Cut; 7]) -> bool {
+    DATA_FIELDS.iter().zip(fields).all(|(code, field)| value_stands(coded(*code), field))
+}
+
+/// ORDER for a data line when only comments, and one at least, part it from an earlier data line.
+fn parted_data(facts: &[Fact], at: usize) -> Option<Fault> {
+    if !matches!(facts[at].what, What::Data(_)) {
+        return None;
+    }
+    let comments = facts[..at].iter().rev().take_while(|fact| matches!(fact.what, What::Comment(_))).count();
+    let before = facts[..at - comments].last()?;
+    let parted = comments > 0 && matches!(before.what, What::Data(_));
+    parted.then_some((facts[at].line, Reason::Order))
+}
+
+/// ORDER at the first code out of place, or SHORT after the last line.
+fn order_fault(kind: Kind, facts: &[Fact], lines: usize) -> Option<Fault> {
+    let placed: Vec<(usize, u8)> = facts.iter().filter_map(|fact| order_code(fact).map(|code| (fact.line, code))).collect();
+    let codes: Vec<u8> = placed.iter().map(|(_, code)| *code).collect();
+    match fit(kind, &codes) {
+        Fit::Whole => None,
+        Fit::Misfit(at) => Some((placed[at].0, Reason::Order)),
+        Fit::Unfinished => Some((lines + 1, Reason::Short)),
+    }
+}
+
+/// What a fact counts for in the order; comments count for nothing.
+fn order_code(fact: &Fact) -> Option<u8> {
+    match &fact.what {
+        What::Mark(code, _) => Some(*code),
+        What::Assigned { word, .. } => Some(word.code),
+        What::Data(_) => Some(DATA_LINE),
+        What::Wrong(_) | What::Comment(_) => None,
+    }
+}
+
+/// An epoch that can be read, with its line and code.
+struct Stamp {
+    line: usize,
+    code: u8,
+    moment: Moment,
+}
+
+/// TIME_ORDER within one segment.
+fn time_faults(segment: &[Fact]) -> Vec<Fault> {
+    let bounds: Vec<Stamp> = segment.iter().filter_map(bound_stamp).collect();
+    let data: Vec<Stamp> = segment.iter().filter_map(data_stamp).collect();
+    let falling = bounds.windows(2).filter(|pair| pair[1].moment < pair[0].moment).map(|pair| pair[1].line);
+    let stalling = data.windows(2).filter(|pair| pair[1].moment <= pair[0].moment).map(|pair| pair[1].line);
+    let outside = data.iter().filter(|stamp| is_outside(&bounds, stamp)).map(|stamp| stamp.line);
+    falling.chain(stalling).chain(outside).map(|line| (line, Reason::TimeOrder)).collect()
+}
+
+fn bound_stamp(fact: &Fact) -> Option<Stamp> {
+    match &fact.what {
+        What::Assigned { word, value, .. } if (START_TIME..=STOP_TIME).contains(&word.code) => {
+            moment(value.text).map(|moment| Stamp { line: fact.line, code: word.code, moment })
+        }
+        _ => None,
+    }
+}
+
+fn data_stamp(fact: &Fact) -> Option<Stamp> {
+    match &fact.what {
+        What::Data(fields) => moment(fields[0].text).map(|moment| Stamp { line: fact.line, code: DATA_LINE, moment }),
+        _ => None,
+    }
+}
+
+/// Whether a data epoch lies outside the bounds given before it; a bound after it is ORDER on its own line.
+fn is_outside(bounds: &[Stamp], data: &Stamp) -> bool {
+    bounds.iter().filter(|bound| bound.line < data.line).any(|bound| match bound.code {
+        START_TIME => data.moment < bound.moment,
+        STOP_TIME => data.moment > bound.moment,
+        _ => false,
+    })
+}
+
+#[cfg(test)]
+mod tests {
+    use super::super::cut::lines;
+    use super::super::facts::facts;
+    use super::*;
+
+    fn oem(text: &str) -> Option<Fault> {
+        let lines = lines(text.as_bytes());
+        least(Kind::Oem, &facts(Kind::Oem, &lines), lines.len())
+    }
+
+    const HEAD: &str = "CCSDS_OEM_VERS=1.0\nCREATION_DATE=2000-001T00:00:00\nORIGINATOR=a\nMETA_START\nOBJECT_NAME=a\nOBJECT_ID=a\nCENTER_NAME=a\nREF_FRAME=a\nTIME_SYSTEM=a\nSTART_TIME=2000-001T00:00:00\nSTOP_TIME=2000-01-02T00:00:00\nMETA_STOP\n";
+    const FIRST: &str = "2000-01-01T00:00:00 1 2 3 4 5 6\n";
+    const NEXT: &str = "2000-002T00:00:00 1 2 3 4 5 6\n";
+
+    #[test]
+    fn the_least_fault_is_named() {
+        assert_eq!(oem(&format!("{HEAD}{FIRST}{NEXT}")), None);
+        assert_eq!(oem(HEAD), Some((13, Reason::Short)));
+        assert_eq!(oem(&format!("{HEAD}{FIRST}{FIRST}")), Some((14, Reason::TimeOrder)));
+        assert_eq!(oem(&format!("{HEAD}{FIRST}COMMENT\n{NEXT}")), Some((15, Reason::Order)));
+        assert_eq!(oem(&format!("{HEAD}{FIRST}COMMENT\n{FIRST}nonsense\n")), Some((15, Reason::Order)));
+        assert_eq!(oem(&format!("{HEAD}{NEXT}{FIRST}x\n")), Some((14, Reason::TimeOrder)));
+        assert_eq!(oem(&format!("{HEAD}2000-003T00:00:00 1 2 3 4 5 .6\n")), Some((13, Reason::Value)));
+        assert_eq!(oem(&format!("{HEAD}2000-003T00:00:00 1 2 3 4 5 6\n")), Some((13, Reason::TimeOrder)));
+    }
+
+    #[test]
+    fn what_comes_later_spoils_no_earlier_line() {
+        assert_eq!(oem(&format!("{HEAD}{FIRST}STOP_TIME=1990-001T00:00:00\n")), Some((14, Reason::Order)));
+        assert_eq!(oem(&format!("{HEAD}{FIRST}START_TIME=2010-001T00:00:00\n")), Some((14, Reason::Order)));
+    }
+
+    #[test]
+    fn comments_elsewhere_part_nothing() {
+        let segment = HEAD.split_once("META_START").expect("a segment").1;
+        assert_eq!(oem(&format!("{HEAD}COMMENT\n{FIRST}{NEXT}COMMENT\nMETA_START{segment}COMMENT\n{FIRST}")), None);
+    }
+}

@@ -1,0 +1,513 @@
+//! Makes sound feeds, with all optional parts varied, and foretells the rows of each message.
+//! The keywords and units stand here a second time, so that a slip in the judge's list shows.
+
+use crate::clock::{any_time, Time, DAY, SECOND};
+use crate::dice::Dice;
+use crate::judge::Row;
+
+/// What a line is made of.
+#[derive(Clone, Debug)]
+pub enum Part {
+    Assign { word: String, value: String, unit: String },
+    Comment(String),
+    Mark(String),
+    Data(Vec<String>),
+    Blank,
+    Raw(Vec<u8>),
+}
+
+/// A line before it is written.
+#[derive(Clone, Debug)]
+pub struct Line {
+    pub part: Part,
+    pub code: u16,
+    pub group: u16,
+    /// The time that the line's epoch says, if it has one.
+    pub time: Option<Time>,
+    /// Blanks before the text, around `=`, between fields, before a unit, and after the text.
+    pub blanks: [usize; 5],
+    /// Blanks are added at the end up to this many bytes.
+    pub stretch: usize,
+}
+
+/// How the lines of a feed end.
+#[derive(Clone, Copy, Debug, PartialEq, Eq)]
+pub enum Ending {
+    Always(&'static [u8]),
+    Mixed,
+}
+
+/// A feed before it is written.
+#[derive(Clone, Debug)]
+pub struct Draft {
+    /// Bytes before the first heading; if there are any, they end with a line ending.
+    pub before: Vec<u8>,
+    pub messages: Vec<Vec<Line>>,
+    pub ending: Ending,
+    /// Whether the last line goes without an ending.
+    pub open_end: bool,
+}
+
+pub const ENDINGS: [&[u8]; 4] = [b"\n", b"\r", b"\r\n", b"\n\r"];
+
+const HEADER: [(u16, &str); 2] = [(2, "CREATION_DATE"), (3, "ORIGINATOR")];
+const OBJECT: [(u16, &str); 5] = [(4, "OBJECT_NAME"), (5, "OBJECT_ID"), (6, "CENTER_NAME"), (7, "REF_FRAME"), (8, "TIME_SYSTEM")];
+const STATE: [(u16, &str, &str); 6] =
+    [(10, "X", "[KM]"), (11, "Y", "[KM]"), (12, "Z", "[KM]"), (13, "X_DOT", "[KM/S]"), (14, "Y_DOT", "[KM/S]"), (15, "Z_DOT", "[KM/S]")];
+const KEPLER: [(u16, &str, &str); 5] = [
+    (16, "SEMI_MAJOR_AXIS", "[KM]"),
+    (17, "ECCENTRICITY", ""),
+    (18, "INCLINATION", "[DEG]"),
+    (19, "RA_OF_ASC_NODE", "[DEG]"),
+    (20, "ARG_OF_PERICENTER", "[DEG]"),
+];
+const ANOMALIES: [(u16, &str, &str); 2] = [(21, "TRUE_ANOMALY", "[DEG]"), (22, "MEAN_ANOMALY", "[DEG]")];
+const CRAFT: [(u16, &str, &str); 5] = [
+    (24, "MASS", "[KG]"),
+    (25, "SOLAR_RAD_AREA", "[M**2]"),
+    (26, "SOLAR_RAD_COEFF", ""),
+    (27, "DRAG_AREA", "[M**2]"),
+    (28, "DRAG_COEFF", ""),
+];
+const THRUST: [(u16, &str, &str); 3] = [(33, "MAN_DV_1", "[KM/S]"), (34, "MAN_DV_2", "[KM/S]"), (35, "MAN_DV_3", "[KM/S]")];
+
+/// A sound feed of one message or more.
+pub fn draft(dice: &mut Dice) -> Draft {
+    let count = dice.pick(&[1, 1, 1, 1, 2, 2, 3, 5]);
+    let messages = (0..count).map(|_| if dice.percent(45) { opm(dice) } else { oem(dice) }).collect();
+    let ending = if dice.percent(40) { Ending::Mixed } else { Ending::Always(dice.pick(&ENDINGS)) };
+    let before = if dice.percent(25) { garbage(dice) } else { Vec::new() };
+    Draft { before, messages, ending, open_end: dice.percent(25) }
+}
+
+/// Builds a message line by line, with comments and blank lines strewn in.
+struct Maker<'d> {
+    dice: &'d mut Dice,
+    lines: Vec<Line>,
+    group: u16,
+    /// How many in a hundred lines have a comment before them.
+    comments: usize,
+    /// How many in a hundred lines have a blank line before them.
+    gaps: usize,
+    /// Whether blanks are strewn freely.
+    loose: bool,
+}
+
+impl<'d> Maker<'d> {
+    fn new(dice: &'d mut Dice) -> Maker<'d> {
+        let comments = dice.pick(&[0, 0, 5, 20]);
+        let gaps = dice.pick(&[0, 5, 30]);
+        let loose = dice.percent(50);
+        Maker { dice, lines: Vec::new(), group: 0, comments, gaps, loose }
+    }
+
+    fn add(&mut self, code: u16, part: Part, time: Option<Time>) {
+        let blanks = if self.loose { any_blanks(self.dice) } else { [0, 1, 1, 1, 0] };
+        let stretch = if self.dice.percent(1) { self.dice.between(250, 254) } else { 0 };
+        self.lines.push(Line { part, code, group: self.group, time, blanks, stretch });
+    }
+
+    /// Blank lines and comments before the next line; between data lines a comment may not stand.
+    fn strew(&mut self, comments_too: bool) {
+        while self.dice.percent(self.gaps) {
+            self.add(0, Part::Blank, None);
+        }
+        while comments_too && self.dice.percent(self.comments) {
+            let text = if self.dice.percent(15) { String::new() } else { any_text(self.dice) };
+            self.add(45, Part::Comment(text), None);
+        }
+    }
+
+    fn assign(&mut self, code: u16, word: &str, value: String, unit: &str) {
+        self.strew(true);
+        self.add(code, assigned(word, value, unit), None);
+    }
+
+    fn text(&mut self, code: u16, word: &str) {
+        let value = any_text(self.dice);
+        self.assign(code, word, value, "");
+    }
+
+    fn number(&mut self, (code, word, unit): (u16, &str, &str)) {
+        let value = any_number(self.dice);
+        let unit = if self.dice.percent(50) { unit } else { "" };
+        self.assign(code, word, value, unit);
+    }
+
+    fn epoch(&mut self, code: u16, word: &str, time: Time) {
+        self.strew(true);
+        let value = time.any_text(self.dice);
+        self.add(code, assigned(word, value, ""), Some(time));
+    }
+
+    fn mark(&mut self, code: u16, word: &str) {
+        self.strew(true);
+        self.add(code, Part::Mark(word.to_string()), None);
+    }
+
+    fn data(&mut self, time: Time) {
+        let mut fields = vec![time.any_text(self.dice)];
+        fields.extend((0..6).map(|_| any_number(self.dice)));
+        self.add(9, Part::Data(fields), Some(time));
+    }
+
+    /// The heading and the two lines after it; no comment stands before a heading.
+    fn header(&mut self, code: u16, word: &str) {
+        self.add(code, assigned(word, "1.0".to_string(), ""), None);
+        let time = any_time(self.dice);
+        self.epoch(HEADER[0].0, HEADER[0].1, time);
+        self.text(HEADER[1].0, HEADER[1].1);
+    }
+
+    fn object(&mut self) {
+        OBJECT.iter().for_each(|(code, word)| self.text(*code, word));
+    }
+
+    fn kepler(&mut self) {
+        KEPLER.iter().for_each(|entry| self.number(*entry));
+        let anomaly = self.dice.pick(&ANOMALIES);
+        self.number(anomaly);
+        self.number((23, "GM", "[KM**3/S**2]"));
+    }
+
+    fn burn(&mut self) {
+        self.strew(true);
+        self.group += 1;
+        let time = any_time(self.dice);
+        let value = time.any_text(self.dice);
+        self.add(29, assigned("MAN_EPOCH_IGNITION", value, ""), Some(time));
+        self.number((30, "MAN_DURATION", "[S]"));
+        self.number((31, "MAN_DELTA_MASS", "[KG]"));
+        self.text(32, "MAN_REF_FRAME");
+        THRUST.iter().for_each(|entry| self.number(*entry));
+    }
+
+    fn segment(&mut self) {
+        self.strew(true);
+        self.group += 1;
+        self.add(37, Part::Mark("META_START".to_string()), None);
+        self.object();
+        let span = span(self.dice);
+        self.epoch(38, "START_TIME", span.start);
+        if let Some(time) = span.useable_start {
+            self.epoch(39, "USEABLE_START_TIME", time);
+        }
+        if let Some(time) = span.useable_stop {
+            self.epoch(40, "USEABLE_STOP_TIME", time);
+        }
+        self.epoch(41, "STOP_TIME", span.stop);
+        self.interpolation();
+        self.mark(44, "META_STOP");
+        for (at, time) in span.data.into_iter().enumerate() {
+            self.strew(at == 0);
+            self.data(time);
+        }
+    }
+
+    fn interpolation(&mut self) {
+        if self.dice.percent(50) {
+            self.text(42, "INTERPOLATION");
+        }
+        if self.dice.percent(50) {
+            let value = any_integer(self.dice);
+            self.assign(43, "INTERPOLATION_DEGREE", value, "");
+        }
+    }
+}
+
+fn assigned(word: &str, value: String, unit: &str) -> Part {
+    Part::Assign { word: word.to_string(), value, unit: unit.to_string() }
+}
+
+/// A sound OPM.
+pub fn opm(dice: &mut Dice) -> Vec<Line> {
+    let mut maker = Maker::new(dice);
+    maker.header(1, "CCSDS_OPM_VERS");
+    maker.object();
+    let time = any_time(maker.dice);
+    maker.epoch(9, "EPOCH", time);
+    STATE.iter().for_each(|entry| maker.number(*entry));
+    if maker.dice.percent(50) {
+        maker.kepler();
+    }
+    CRAFT.iter().for_each(|entry| maker.number(*entry));
+    for _ in 0..maker.dice.pick(&[0, 0, 1, 2, 4]) {
+        maker.burn();
+    }
+    maker.strew(true);
+    maker.lines
+}
+
+/// A sound OEM.
+pub fn oem(dice: &mut Dice) -> Vec<Line> {
+    let mut maker = Maker::new(dice);
+    maker.header(36, "CCSDS_OEM_VERS");
+    for _ in 0..maker.dice.pick(&[1, 1, 1, 2, 3]) {
+        maker.segment();
+    }
+    maker.strew(true);
+    maker.lines
+}
+
+/// The times of a segment.
+struct Span {
+    start: Time,
+    useable_start: Option<Time>,
+    useable_stop: Option<Time>,
+    stop: Time,
+    data: Vec<Time>,
+}
+
+fn span(dice: &mut Dice) -> Span {
+    let step = dice.pick(&[1, 1000, SECOND / 2, SECOND, 60 * SECOND, DAY, 31 * DAY]);
+    let count = dice.pick(&[1, 1, 2, 3, 5, 8, 20]);
+    let mut data = vec![any_time(dice)];
+    for at in 1..count {
+        data.push(data[at - 1].plus(step * dice.between(1, 3) as u128));
+    }
+    let start = data[0].minus(step * dice.below(3) as u128);
+    let stop = data[count - 1].plus(step * dice.below(3) as u128);
+    let mut inner = [within(dice, start, stop), within(dice, start, stop)];
+    inner.sort();
+    let useable_start = dice.percent(50).then_some(inner[0]);
+    let useable_stop = dice.percent(50).then_some(inner[1]);
+    Span { start, useable_start, useable_stop, stop, data }
+}
+
+/// A time from one to the other, often one of the two.
+fn within(dice: &mut Dice, start: Time, stop: Time) -> Time {
+    let width = stop.0 - start.0;
+    let part = dice.pick(&[0, 1, 2, 3, 4]);
+    Time(start.0 + width * part / 4)
+}
+
+fn any_blanks(dice: &mut Dice) -> [usize; 5] {
+    std::array::from_fn(|_| if dice.percent(2) { 20 } else { dice.pick(&[0, 0, 1, 1, 2, 5]) })
+}
+
+/// A text of printable bytes that begins and ends with none blank.
+pub fn any_text(dice: &mut Dice) -> String {
+    let size = if dice.percent(5) { dice.between(1, 60) } else { dice.between(1, 12) };
+    let text: String = (0..size).map(|_| if dice.percent(10) { ' ' } else { char::from(dice.between(33, 126) as u8) }).collect();
+    let trimmed = text.trim_matches(' ');
+    if trimmed.is_empty() {
+        "EARTH".to_string()
+    } else {
+        trimmed.to_string()
+    }
+}
+
+fn digits(dice: &mut Dice, count: usize) -> String {
+    (0..count).map(|_| char::from(b'0' + dice.below(10) as u8)).collect()
+}
+
+fn sign(dice: &mut Dice) -> &'static str {
+    dice.pick(&["", "", "-", "+"])
+}
+
+/// A number in one of its forms, at times as long as it may be.
+pub fn any_number(dice: &mut Dice) -> String {
+    let sign = sign(dice);
+    let most = if dice.percent(10) { 16 } else { 8 };
+    match dice.below(4) {
+        0 => {
+            let count = dice.between(1, most);
+            format!("{sign}{}", digits(dice, count))
+        }
+        1 | 2 => {
+            let whole = dice.between(1, most - 1);
+            let part = if dice.percent(20) { most - whole } else { dice.between(1, most - whole) };
+            format!("{sign}{}.{}", digits(dice, whole), digits(dice, part))
+        }
+        _ => exponential(dice, sign, most - 1),
+    }
+}
+
+fn exponential(dice: &mut Dice, sign: &str, most: usize) -> String {
+    let part = dice.between(1, most);
+    let power = dice.between(1, 3);
+    let mark = if dice.percent(50) { 'E' } else { 'e' };
+    let power_sign = self::sign(dice);
+    format!("{sign}{}.{}{mark}{power_sign}{}", digits(dice, 1), digits(dice, part), digits(dice, power))
+}
+
+/// An integer, at times at the end of its range.
+pub fn any_integer(dice: &mut Dice) -> String {
+    if dice.percent(20) {
+        return dice.pick(&["2147483647", "-2147483648", "+00", "-0", "0000000000000002147483647"]).to_string();
+    }
+    let count = dice.between(1, 9);
+    format!("{}{}", sign(dice), digits(dice, count))
+}
+
+/// Bytes before the first heading: lines of any bytes, and lines that are nearly headings.
+fn garbage(dice: &mut Dice) -> Vec<u8> {
+    const NEARLY: [&[u8]; 6] = [
+        b"CCSDS_OPM_VERS", b"CCSDS_OMM_VERS = 1.0", b"\tCCSDS_OEM_VERS = 1.0", b"xCCSDS_OPM_VERS=1.0", b"COMMENT CCSDS_OEM_VERS = 1.0",
+        b"CCSDS_OEM_VERS 1.0 =",
+    ];
+    let mut out = Vec::new();
+    for _ in 0..dice.between(1, 4) {
+        if dice.percent(30) {
+            out.extend_from_slice(dice.pick(&NEARLY));
+        } else {
+            let size = if dice.percent(10) { 300 } else { dice.below(40) };
+            out.extend((0..size).map(|_| dice.byte()));
+        }
+        out.extend_from_slice(dice.pick(&ENDINGS));
+    }
+    out
+}
+
+/// The bytes of a line without its ending, and where its values stand in it.
+pub fn line_text(line: &Line) -> (Vec<u8>, Vec<(u16, usize, usize)>) {
+    let mut out = vec![b' '; line.blanks[0]];
+    let mut values = Vec::new();
+    match &line.part {
+        Part::Assign { word, value, unit } => write_assignment(&mut out, &mut values, line, [word, value, unit]),
+        Part::Comment(text) => write_comment(&mut out, &mut values, line, text),
+        Part::Mark(word) => {
+            out.extend_from_slice(word.as_bytes());
+            values.push((line.code, out.len(), 0));
+        }
+        Part::Data(fields) => write_data(&mut out, &mut values, line, fields),
+        Part::Blank => {}
+        Part::Raw(bytes) => out.clone_from(bytes),
+    }
+    if !matches!(line.part, Part::Raw(_)) {
+        push_blanks(&mut out, line.blanks[4]);
+    }
+    let missing = line.stretch.saturating_sub(out.len());
+    push_blanks(&mut out, missing);
+    (out, values)
+}
+
+fn push_blanks(out: &mut Vec<u8>, count: usize) {
+    out.resize(out.len() + count, b' ');
+}
+
+fn write_assignment(out: &mut Vec<u8>, values: &mut Vec<(u16, usize, usize)>, line: &Line, [word, value, unit]: [&str; 3]) {
+    out.extend_from_slice(word.as_bytes());
+    push_blanks(out, line.blanks[1]);
+    out.push(b'=');
+    push_blanks(out, line.blanks[2]);
+    values.push((line.code, out.len(), value.len()));
+    out.extend_from_slice(value.as_bytes());
+    if !unit.is_empty() {
+        push_blanks(out, line.blanks[3].max(1));
+        out.extend_from_slice(unit.as_bytes());
+    }
+}
+
+fn write_comment(out: &mut Vec<u8>, values: &mut Vec<(u16, usize, usize)>, line: &Line, text: &str) {
+    out.extend_from_slice(b"COMMENT");
+    if !text.is_empty() {
+        push_blanks(out, line.blanks[1].max(1));
+    }
+    values.push((45, out.len(), text.len()));
+    out.extend_from_slice(text.as_bytes());
+}
+
+fn write_data(out: &mut Vec<u8>, values: &mut Vec<(u16, usize, usize)>, line: &Line, fields: &[String]) {
+    for (at, field) in fields.iter().enumerate() {
+        if at > 0 {
+            push_blanks(out, line.blanks[1 + at % 3].max(1));
+        }
+        values.push((9 + at as u16, out.len(), field.len()));
+        out.extend_from_slice(field.as_bytes());
+    }
+}
+
+/// A written feed, with the rows foretold for each message.
+pub struct Written {
+    pub feed: Vec<u8>,
+    pub rows: Vec<Vec<Row>>,
+}
+
+/// Writes bytes and counts lines byte by byte, unlike the judge, which looks for endings.
+struct Writer {
+    out: Vec<u8>,
+    ended: usize,
+    /// A single CR or LF just written, which the other one would still join.
+    open: Option<u8>,
+}
+
+impl Writer {
+    fn push(&mut self, byte: u8) {
+        self.open = match (byte, self.open) {
+            (b'\n', Some(b'\r')) | (b'\r', Some(b'\n')) => None,
+            (b'\n' | b'\r', _) => {
+                self.ended += 1;
+                Some(byte)
+            }
+            _ => None,
+        };
+        self.out.push(byte);
+    }
+
+    fn push_all(&mut self, bytes: &[u8]) {
+        bytes.iter().for_each(|byte| self.push(*byte));
+    }
+}
+
+/// Writes a draft.
+pub fn write(draft: &Draft, dice: &mut Dice) -> Written {
+    let mut writer = Writer { out: Vec::new(), ended: 0, open: None };
+    writer.push_all(&draft.before);
+    let mut rows = Vec::new();
+    for (at, message) in draft.messages.iter().enumerate() {
+        let open_end = draft.open_end && at + 1 == draft.messages.len();
+        rows.push(write_message(&mut writer, message, draft.ending, open_end, dice));
+    }
+    Written { feed: writer.out, rows }
+}
+
+fn write_message(writer: &mut Writer, lines: &[Line], ending: Ending, open_end: bool, dice: &mut Dice) -> Vec<Row> {
+    let heading = writer.ended;
+    let mut rows: Vec<Row> = Vec::new();
+    for (at, line) in lines.iter().enumerate() {
+        let (text, values) = line_text(line);
+        let from = writer.out.len();
+        for (code, start, length) in values {
+            // A comment takes the group of the row before it.
+            let group = if code == 45 { rows.last().map_or(0, |row| row.group) } else { line.group };
+            let line = writer.ended - heading + 1;
+            // Feeds over the limit are written too, and have no rows to foretell.
+            rows.push(Row { code, group, line: line as u16, start: (from + start) as u16, length: length as u16 });
+        }
+        writer.push_all(&text);
+        if open_end && at + 1 == lines.len() {
+            break;
+        }
+        match ending {
+            Ending::Always(bytes) => writer.push_all(bytes),
+            Ending::Mixed => writer.push_all(dice.pick(&ENDINGS)),
+        }
+    }
+    rows
+}
+
+#[cfg(test)]
+mod tests {
+    use super::*;
+    use crate::judge::{judge, Answer};
+
+    #[test]
+    fn sound_feeds_are_accepted_with_the_rows_foretold() {
+        for turn in 0..300 {
+            let mut dice = Dice::new(11, turn);
+            let draft = draft(&mut dice);
+            let written = write(&draft, &mut dice);
+            for (at, rows) in written.rows.iter().enumerate() {
+                assert_eq!(judge(&written.feed, at as u64 + 1), Answer::Accepted(rows.clone()), "turn {turn}");
+            }
+        }
+    }
+
+    #[test]
+    fn the_writer_counts_pairs_once() {
+        let mut writer = Writer { out: Vec::new(), ended: 0, open: None };
+        writer.push_all(b"a\r\nb\n\rc\n\nd\r\r\n");
+        assert_eq!(writer.ended, 6);
+    }
+}
