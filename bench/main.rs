@@ -1,0 +1,135 @@
+//! Times as ratios: the product's archive against the second program and against a bare scan for line ends, interleaved in one run.
+#[path = "../second/src/judge/mod.rs"]
+#[allow(dead_code, unused_imports)]
+mod judge;
+
+use std::hint::black_box;
+use std::time::Instant;
+
+#[repr(C)]
+struct Judged {
+    reason: u32,
+    line: u32,
+    rows: u32,
+}
+
+extern "C" {
+    fn odm_judge(feed: *const u8, length: usize, message: usize) -> Judged;
+}
+
+fn product(feed: &[u8], messages: &[usize]) -> u64 {
+    let mut sum = 0;
+    for &message in messages {
+        let answer = unsafe { odm_judge(feed.as_ptr(), feed.len(), message) };
+        sum += u64::from(answer.reason + answer.line + answer.rows);
+    }
+    sum
+}
+
+/// Asked as the product is asked: a feed and a message number a call, with nothing kept between calls.
+fn second(feed: &[u8], messages: &[usize]) -> u64 {
+    let mut sum = 0;
+    for &message in messages {
+        black_box(judge::judge(feed, message as u64));
+        sum += 1;
+    }
+    sum
+}
+
+/// The least that any judge must do: look at every byte once for an ending.
+fn scan(feed: &[u8], messages: &[usize]) -> u64 {
+    let mut endings = 0;
+    for _ in messages {
+        for &byte in black_box(feed) {
+            if byte == 13 || byte == 10 {
+                endings += 1;
+            }
+        }
+    }
+    endings
+}
+
+fn head() -> String {
+    "CCSDS_OEM_VERS = 1.0\nCREATION_DATE = 2000-01-01T00:00:00\nORIGINATOR = BENCH\nMETA_START\nOBJECT_NAME = A\nOBJECT_ID = B\nCENTER_NAME = EARTH\nREF_FRAME = ICRF\nTIME_SYSTEM = UTC\nSTART_TIME = 2000-001T00:00:00\nSTOP_TIME = 2000-366T00:00:00\nMETA_STOP\n".to_string()
+}
+
+/// An OEM of data lines, as near to a length as whole lines go.
+fn ephemeris(length: usize) -> Vec<u8> {
+    let mut text = head();
+    let mut minute = 0;
+    loop {
+        let line = format!("2000-{:03}T{:02}:{:02}:00.000 {:.6} {:.6} {:.6} {:.9} {:.9} {:.9}\n", 1 + minute / 1440, minute / 60 % 24, minute % 60, 2789.619 + minute as f64, -280.045, -1746.755, 4.73372, -2.49586, -1.04195);
+        if text.len() + line.len() > length {
+            return text.into_bytes();
+        }
+        text.push_str(&line);
+        minute += 1;
+    }
+}
+
+fn state_message() -> String {
+    let mut text = "CCSDS_OPM_VERS = 1.0\nCREATION_DATE = 1998-11-06T09:23:57\nORIGINATOR = JAXA\nOBJECT_NAME = GODZILLA 5\nOBJECT_ID = 1998-057A\nCENTER_NAME = EARTH\nREF_FRAME = ITRF-97\nTIME_SYSTEM = UTC\nEPOCH = 1998-12-18T14:28:15.1172\n".to_string();
+    for (word, unit) in [("X", "KM"), ("Y", "KM"), ("Z", "KM"), ("X_DOT", "KM/S"), ("Y_DOT", "KM/S"), ("Z_DOT", "KM/S")] {
+        text.push_str(&format!("{} = 6503.514000 [{}]\n", word, unit));
+    }
+    text.push_str("MASS = 3000.000000 [KG]\nSOLAR_RAD_AREA = 18.770000 [M**2]\nSOLAR_RAD_COEFF = 1.000000\nDRAG_AREA = 18.770000 [M**2]\nDRAG_COEFF = 2.500000\n");
+    text
+}
+
+fn state_messages(length: usize) -> (Vec<u8>, Vec<usize>) {
+    let one = state_message();
+    let count = length / one.len();
+    (one.repeat(count).into_bytes(), (1..=count).collect())
+}
+
+fn median(mut times: Vec<f64>) -> f64 {
+    times.sort_by(|a, b| a.partial_cmp(b).unwrap());
+    times[times.len() / 2]
+}
+
+type Way = fn(&[u8], &[usize]) -> u64;
+
+/// Seconds a call, the median of rounds in which each way takes its turn.
+fn measure(feed: &[u8], messages: &[usize], ways: &[Way], rounds: usize, calls: usize) -> Vec<f64> {
+    let mut times = vec![Vec::new(); ways.len()];
+    for _ in 0..rounds {
+        for (at, way) in ways.iter().enumerate() {
+            let begun = Instant::now();
+            for _ in 0..calls {
+                black_box(way(black_box(feed), messages));
+            }
+            times[at].push(begun.elapsed().as_secs_f64() / calls as f64);
+        }
+    }
+    times.into_iter().map(median).collect()
+}
+
+fn main() {
+    let whole = ephemeris(65_535);
+    let mut damaged = whole.clone();
+    let last = damaged.len() - 2;
+    damaged[last] = b'x';
+    let (states, numbers) = state_messages(65_535);
+    println!("medians of interleaved rounds; a ratio above 1 means that the product is slower");
+    for (name, feed, messages, calls) in [
+        ("64 KB ephemeris", &whole, vec![1], 20),
+        ("64 KB of state messages, each judged", &states, numbers, 1),
+        ("64 KB ephemeris refused at its last line", &damaged, vec![1], 20),
+    ] {
+        let times = measure(feed, &messages, &[product, second, scan], 15, calls);
+        println!("{}: {:.0} microseconds", name, times[0] * 1e6);
+        println!("  against the second program: {:.2}", times[0] / times[1]);
+        println!("  against a bare scan for line ends: {:.2}", times[0] / times[2]);
+    }
+    println!("growth from 4 KB, per byte, doubling:");
+    let base = per_byte(4 * 1024);
+    for doubling in 0..5 {
+        let length = (4 * 1024) << doubling;
+        println!("  {} bytes: {:.2}", length, per_byte(length.min(65_535)) / base);
+    }
+}
+
+fn per_byte(length: usize) -> f64 {
+    let feed = ephemeris(length);
+    measure(&feed, &[1], &[product], 31, 1 + 1_000_000 / length)[0] / feed.len() as f64
+}
