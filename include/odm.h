@@ -54,6 +54,37 @@ typedef struct {
 
 odm_judged odm_judge(const uint8_t *feed, size_t feed_len, size_t message);
 
+/* The desk. A desk is two numbers, its load number and its row count. A fresh desk is 0 and 0. odm_place hands back the next desk on acceptance and
+ * refusal alike: hand on the desk as it last came back. An older copy counts as another desk.
+ *
+ * The table is lent bytes: two an entry, low byte first; five entries a row: code, group, line, start, length. An acceptance fills the first
+ * 10 x count bytes and keeps the others as they came, an odd last byte with them. A refusal keeps every byte.
+ *
+ * A ticket is the load number at issue and a row number, from 0. It is answered on the desk that issued it as long as no other load has come.
+ */
+typedef struct {
+    uint32_t load;   /* the next desk's load number: one higher, but as it was on ODM_SPENT */
+    uint32_t count;  /* the next desk's row count: 0 on a refusal, but as it was on ODM_SPENT */
+    uint32_t reason; /* ODM_OK, or 1 to 13 */
+    uint32_t line;   /* for 3 to 11 the line within the message; else 0 */
+} odm_placed;
+
+/* Judges a message and, where it is right and the table has room, fills the table. table_len is in bytes. */
+odm_placed odm_place(uint32_t load, uint32_t count, const uint8_t *feed, size_t feed_len, size_t message, uint8_t *table, size_t table_len);
+
+/* A row, spoken to a ticket. Its value is the feed's bytes from start on, length of them. */
+typedef struct {
+    uint32_t reason; /* ODM_OK, ODM_GONE, ODM_NO_ROW or ODM_ASTRAY; on a refusal every other field is 0 */
+    uint32_t code;   /* the keyword's code, 1 to 45 */
+    uint32_t group;  /* OPM: the maneuver set, from 1, else 0; OEM: the segment, from 1, 0 in the header */
+    uint32_t line;   /* within the message */
+    uint32_t start;  /* the value's place in the feed, from 0, unit excluded */
+    uint32_t length; /* the value's length in bytes */
+} odm_row;
+
+odm_row odm_read(uint32_t load, uint32_t count, uint32_t ticket_load, uint32_t ticket_row, const uint8_t *feed, size_t feed_len, const uint8_t *table,
+                 size_t table_len);
+
 #ifdef __cplusplus
 }
 #endif

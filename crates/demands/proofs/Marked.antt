@@ -1,6 +1,11 @@
 -- The marked cases hold by computation on the definitions.
 -- Assumes nothing.
-use mathlib.Core.Path.{refl}
+use Prim.Native.Nat.{ℕ}
+use mathlib.Core.Path.{_≡_, refl}
+use mathlib.Core.Bool.{Bool, true, false, _||_, false≢true}
+use mathlib.Core.List.{List, [], _∷_, List·Memᴰ, List·Memᴰ·head, List·Memᴰ·tail}
+use lib.Dec.{eqb}
+use borrow.Author.Tests.{eqb-true}
 use Rattle.words.specs.Words.{bytes, agrees, run, isWord}
 use Rattle.lines.specs.Feed.{lastLine, linesFrom}
 use Rattle.lines.specs.Text.{cutEnd, trimOf, heads, headingOf, wordEnds, commentOf, sidesOf, fieldThen, fieldsFrom, fieldMore, gathered}
@@ -11,8 +16,35 @@ use Rattle.grammar.specs.Keywords.{keywords, codeIn, keywordOf, isUnit}
 use Rattle.grammar.specs.Order.{nextOf, allows}
 use Rattle.step.specs.Step.{isTimely, areNumbers, dataAt, dataOf, fieldsOf, wholeOf, numberOf, pastTime, isEarly, timeOf, valueOf, assignOf, metaCode, metaOf, plainOf, pastComment, uncommentedOf, filledOf, stepOf}
 use Rattle.judge.specs.Message.{fromHeading, upTo, messageOf, endOf, judgeTexts, judgeLines, judgeOf, groupOf, rowsAt, rowsFrom, rowsLines}
+use Rattle.desk.specs.Loads.{roomFor, deskAfter, loadOf}
 use Rattle.demands.specs.Marked.{Marked}
+use Rattle.demands.specs.Healing.{Met}
+
+-- membership by a test that computes
+unfoldable has : ℕ → List ℕ → Bool
+has q [] = false
+has q (x ∷ xs) = eqb q x || has q xs
+
+mem-of : (q : ℕ) (xs : List ℕ) → has q xs ≡ true → List·Memᴰ q xs
+unfolding has
+mem-of q [] e = absurd (false≢true e)
+mem-of q (x ∷ xs) e = go (eqb q x) refl e (mem-of q xs)
+  where
+    go : (t : Bool) → eqb q x ≡ t → t || has q xs ≡ true → (has q xs ≡ true → List·Memᴰ q xs) → List·Memᴰ q (x ∷ xs)
+    go true c r f = List·Memᴰ·head (eqb-true q x c)
+    go false c r f = List·Memᴰ·tail (f r)
+
+-- one declaration, so that the definitions are opened once
+both : Marked × Met
+unfolding has bytes agrees run isWord lastLine linesFrom cutEnd trimOf heads headingOf wordEnds commentOf sidesOf fieldThen fieldsFrom fieldMore gathered signLen isExponent endsNumber afterWhole isNumber digitsFrom integerTop isInteger isLeap monthDays daysBefore monthDay yearDay isClock isFraction timedOf epochOf isBefore pick keywords codeIn keywordOf isUnit nextOf allows isTimely areNumbers dataAt dataOf fieldsOf wholeOf numberOf pastTime isEarly timeOf valueOf assignOf metaCode metaOf plainOf pastComment uncommentedOf filledOf stepOf fromHeading upTo messageOf endOf judgeTexts judgeLines judgeOf groupOf rowsAt rowsFrom rowsLines roomFor deskAfter loadOf
+both = (
+  (refl, refl, refl, refl, refl, refl, refl, refl, refl, refl, refl, refl, refl, refl, refl, refl, refl, refl, refl, refl),
+  (mem-of 2 _ refl, mem-of 22 _ refl, refl, refl, refl, refl),
+)
 
 pub marked : Marked
-unfolding bytes agrees run isWord lastLine linesFrom cutEnd trimOf heads headingOf wordEnds commentOf sidesOf fieldThen fieldsFrom fieldMore gathered signLen isExponent endsNumber afterWhole isNumber digitsFrom integerTop isInteger isLeap monthDays daysBefore monthDay yearDay isClock isFraction timedOf epochOf isBefore pick keywords codeIn keywordOf isUnit nextOf allows isTimely areNumbers dataAt dataOf fieldsOf wholeOf numberOf pastTime isEarly timeOf valueOf assignOf metaCode metaOf plainOf pastComment uncommentedOf filledOf stepOf fromHeading upTo messageOf endOf judgeTexts judgeLines judgeOf groupOf rowsAt rowsFrom rowsLines
-marked = (refl, refl, refl, refl, refl, refl, refl, refl, refl, refl, refl, refl, refl, refl, refl, refl, refl, refl)
+marked = both .0
+
+-- the hypotheses of demand 3 can be met
+pub met : Met
+met = both .1

@@ -1,1 +1,3 @@
 pub mod Marked
+pub mod Loads
+pub mod Healing

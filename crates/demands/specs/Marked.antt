@@ -13,6 +13,8 @@ use Rattle.epochs.specs.Epoch.{epochOf}
 use Rattle.judge.specs.Message.{judgeOf, rowsOf}
 use Rattle.judge.specs.declared.Judged.the-variants.{Accepted, Refused}
 use Rattle.judge.specs.declared.Row.{Row}
+use Rattle.desk.specs.Loads.{loadOf}
+use Rattle.desk.specs.declared.Desk.{Desk}
 use Rattle.step.specs.declared.Reason.the-variants as Reasons
 use Rattle.epochs.specs.declared.Epoch.{Epoch}
 use Rattle.epochs.specs.declared.Epoch.the-variants.{At, Bad}
@@ -48,6 +50,10 @@ feedInFull = bytes twelveLines ++ bytes dataLine
 abbrev pub row : ℕ → ℕ → ℕ → ℕ → ℕ → Row
 row c g l s n = record { code = c; group = g; line = l; start = s; length = n }
 
+-- "A fresh desk has load number 0 and holds no rows."
+abbrev pub freshDesk : Desk
+freshDesk = record { load = record { 0 = 0 }; count = 0 }
+
 -- "19 rows"
 abbrev pub nineteenRows : List Row
 nineteenRows =
@@ -73,7 +79,7 @@ nineteenRows =
     ∷ []
 
 -- "days 2000-02-29 and 2000-366 stand; 1900-02-29, 2001-366, hour 24 and second 60 are VALUE. `0.5` stands; `.5` and `5.` don't. 2147483647
--- stands as a degree, 2147483648 doesn't. 254 bytes stand, 255 are LONG." "Without line 13: SHORT at 13. Line 12 given twice: ORDER at 13."
+-- stands as a degree, 2147483648 doesn't. 254 bytes stand, 255 are LONG." "Without line 13: SHORT at 13. Line 12 given twice: ORDER at 13." "Table of 94 entries: NO_ROOM."
 abbrev pub Marked : Type 0
 Marked =
     (epochStands "2000-02-29T00:00:00" ≡ true)
@@ -94,3 +100,5 @@ Marked =
     × (rowsOf feedInFull 1 ≡ nineteenRows)
     × (judgeOf (bytes twelveLines) 1 ≡ Refused Reasons.Short 13)
     × (judgeOf (bytes twelveLines ++ (bytes "META_STOP\n" ++ bytes dataLine)) 1 ≡ Refused Reasons.Order 13)
+    × (loadOf freshDesk feedInFull 1 188 .answer ≡ Refused Reasons.NoRoom 0)
+    × (loadOf freshDesk feedInFull 1 190 .answer ≡ Accepted 19)

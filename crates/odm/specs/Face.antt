@@ -5,7 +5,15 @@ use Rattle.judge.specs.declared.Judged.{Judged}
 use Rattle.judge.specs.declared.Judged.the-variants.{Accepted, Refused}
 use Rattle.judge.specs.declared.Counted.{Counted}
 use Rattle.judge.specs.declared.Counted.the-variants.{Headings, Barred}
+use Prim.Native.Nat.{ℕ}
+use Rattle.desk.specs.declared.Desk.{Desk}
+use Rattle.desk.specs.declared.Ticket.{Ticket}
+use Rattle.desk.specs.declared.Loaded.{Loaded}
+use Rattle.desk.specs.declared.Heard.{Heard}
+use Rattle.desk.specs.declared.Heard.the-variants.{Spoken, Silent}
 use Rattle.odm.specs.declared.OdmCounted.{OdmCounted}
+use Rattle.odm.specs.declared.OdmPlaced.{OdmPlaced}
+use Rattle.odm.specs.declared.OdmRow.{OdmRow}
 use Rattle.odm.specs.declared.OdmJudged.{OdmJudged}
 
 abbrev pub countedNos : Counted → OdmCounted
@@ -15,3 +23,23 @@ countedNos (Barred r) = record { reason = reasonNo r; count = 0 }
 abbrev pub judgedNos : Judged → OdmJudged
 judgedNos (Accepted n) = record { reason = 0; line = 0; rows = n }
 judgedNos (Refused r l) = record { reason = reasonNo r; line = l; rows = 0 }
+
+-- "a desk as load number and count"
+abbrev pub deskNos : ℕ → ℕ → Desk
+deskNos load count = record { load = record { 0 = load }; count = count }
+
+-- a ticket: the load number at issue and the row number
+abbrev pub ticketNos : ℕ → ℕ → Ticket
+ticketNos load row = record { load = record { 0 = load }; row = record { 0 = row } }
+
+-- the next desk, and the answer
+abbrev pub answerNos : Desk → Judged → OdmPlaced
+answerNos d (Accepted n) = record { load = d .load .0; count = d .count; reason = 0; line = 0 }
+answerNos d (Refused r l) = record { load = d .load .0; count = d .count; reason = reasonNo r; line = l }
+
+abbrev pub placedNos : Loaded → OdmPlaced
+placedNos x = answerNos (x .desk) (x .answer)
+
+abbrev pub rowNos : Heard → OdmRow
+rowNos (Spoken r) = record { reason = 0; code = r .code; group = r .group; line = r .line; start = r .start; length = r .length }
+rowNos (Silent r) = record { reason = reasonNo r; code = 0; group = 0; line = 0; start = 0; length = 0 }

@@ -1,10 +1,17 @@
 // The C face: plain numbers and bytes. No function keeps state, allocates or prints.
+use desk::Desk;
+use desk::Heard;
+use desk::LoadNumber;
+use desk::RowNumber;
+use desk::Ticket;
 use judge::Counted;
 use judge::Judged;
 use step::reason_number;
 ghost use mathlib.Core.Path.{_≡_};
 ghost use Rattle.judge.specs.Message.{countOf, judgeOf};
-ghost use Rattle.odm.specs.Face.{countedNos, judgedNos};
+ghost use lib.ListN.{length};
+ghost use Rattle.desk.specs.Loads.{loadOf, loadTable, readOf};
+ghost use Rattle.odm.specs.Face.{countedNos, judgedNos, deskNos, ticketNos, placedNos, rowNos};
 
 #[repr(C)]
 pub struct OdmCounted {
@@ -17,6 +24,24 @@ pub struct OdmJudged {
     pub reason: u32,
     pub line: u32,
     pub rows: u32,
+}
+
+#[repr(C)]
+pub struct OdmPlaced {
+    pub load: u32,
+    pub count: u32,
+    pub reason: u32,
+    pub line: u32,
+}
+
+#[repr(C)]
+pub struct OdmRow {
+    pub reason: u32,
+    pub code: u32,
+    pub group: u32,
+    pub line: u32,
+    pub start: u32,
+    pub length: u32,
 }
 
 // How many messages a feed has.
@@ -48,6 +73,82 @@ pub extern "C" fn odm_judge(feed: &[u8], message: usize) -> OdmJudged
             reason: reason_number(reason),
             line,
             rows: 0,
+        },
+    }
+}
+
+// A message judged and, where it is right and the table has room, its rows put into the table.
+#[no_mangle]
+pub extern "C" fn odm_place(
+    load: u32,
+    count: u32,
+    feed: &[u8],
+    message: usize,
+    table: &mut [u8],
+) -> OdmPlaced
+    ensures answer { λ r. ⌜ r ≡ placedNos (loadOf (deskNos load count) (now (feed .entry)) message (length (now (table .entry)))) ⌝ }
+    ensures table { λ _. ⌜ now (table .exit) ≡ loadTable (deskNos load count) (now (feed .entry)) message (now (table .entry)) ⌝ }
+{
+    let desk = Desk {
+        load: LoadNumber(load),
+        count,
+    };
+    let loaded = desk.load(feed, message, table);
+    let next = loaded.desk;
+    let number = next.load;
+    let answer = loaded.answer;
+    match answer {
+        Judged::Accepted(_) => OdmPlaced {
+            load: number.0,
+            count: next.count,
+            reason: 0,
+            line: 0,
+        },
+        Judged::Refused(reason, line) => OdmPlaced {
+            load: number.0,
+            count: next.count,
+            reason: reason_number(reason),
+            line,
+        },
+    }
+}
+
+// What a ticket hears.
+#[no_mangle]
+pub extern "C" fn odm_read(
+    load: u32,
+    count: u32,
+    ticket_load: u32,
+    ticket_row: u32,
+    feed: &[u8],
+    table: &[u8],
+) -> OdmRow
+    ensures { λ r. ⌜ r ≡ rowNos (readOf (deskNos load count) (ticketNos «ticket_load» «ticket_row») (now (feed .entry)) (now (table .entry))) ⌝ }
+{
+    let desk = Desk {
+        load: LoadNumber(load),
+        count,
+    };
+    let ticket = Ticket {
+        load: LoadNumber(ticket_load),
+        row: RowNumber(ticket_row),
+    };
+    match desk.read(ticket, feed, table) {
+        Heard::Spoken(row) => OdmRow {
+            reason: 0,
+            code: row.code,
+            group: row.group,
+            line: row.line,
+            start: row.start,
+            length: row.length,
+        },
+        Heard::Silent(reason) => OdmRow {
+            reason: reason_number(reason),
+            code: 0,
+            group: 0,
+            line: 0,
+            start: 0,
+            length: 0,
         },
     }
 }

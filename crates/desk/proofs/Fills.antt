@@ -1,0 +1,276 @@
+-- Laws of a table being filled: stores one after the other, a line's rows, a message's rows, and how many there are.
+-- Assumes nothing.
+use mathlib.Core.Path.{_≡_, refl, sym, ap, _∙_}
+use mathlib.Core.List.{List, [], _∷_, _++_}
+use mathlib.Core.Bool.{Bool, true, false, not, _&&_}
+use Prim.Native.Nat.{ℕ, suc, _+_, _-_, _*_, _≤_, _<_}
+use native.Mathlib.Numerals.{add-one}
+use native.Mathlib.Omega.{arith}
+use lib.Dec.{eqb, ltb}
+use lib.ListN.{length, take, drop, set, getD, length-append, length-take, length-drop}
+use borrow.Author.Tests.{eq-eqb, ne-eqb, lt-ltb, le-ltb, ltb-true, ltb-false}
+use lib.Seq.{sets, sets-eq, length-take-le, drop-cons, getD-take}
+use Rattle.lines.specs.Feed.{Line, endsOf}
+use Rattle.lines.specs.Text.{noSpan}
+use Rattle.lines.specs.declared.Span.{Span}
+use Rattle.grammar.specs.Order.{nextOf}
+use Rattle.grammar.specs.declared.Form.{Form}
+use Rattle.grammar.specs.declared.Form.the-variants.{Opm, Oem}
+use Rattle.step.specs.Step.{Inside, freshState, stepOf}
+use Rattle.step.specs.declared.Reason.{Reason}
+use Rattle.step.specs.declared.Reason.the-variants as Reasons
+use Rattle.step.specs.declared.State.{State}
+use Rattle.step.specs.declared.Step.{Step}
+use Rattle.step.specs.declared.Verdict.{Verdict}
+use Rattle.step.specs.declared.Verdict.the-variants.{Right, Wrong}
+use Rattle.step.proofs.Sound.{Good, offence, none, one, seven, step-good}
+use Rattle.judge.specs.Message.{isHeading, formOf, upTo, texts, endOf, judgeTexts, judgeLines, messageOf, judgeOf, FoundIs, groupOf, rowsAt, rowsFrom, rowsLines, rowsOf}
+use Rattle.judge.specs.declared.Found.the-variants.{Place, Missing}
+use Rattle.judge.specs.declared.Judged.{Judged}
+use Rattle.judge.specs.declared.Judged.the-variants.{Accepted, Refused}
+use Rattle.judge.specs.declared.Moved.{Moved}
+use Rattle.judge.specs.declared.Row.{Row}
+use Rattle.judge.proofs.Laws.{line-left, text-left, up-more, left, AtLine, judge-long, judge-missing, judge-found}
+use Rattle.desk.specs.Table.{rowBytes, tableBytes, putRow, putRows}
+use Rattle.desk.specs.Loads.{topLoad, nextDesk, roomFor, deskAfter, loadOf, tableAfter, loadTable, StepFits, Fillable}
+use Rattle.desk.specs.declared.Desk.{Desk}
+use Rattle.desk.specs.declared.Loaded.{Loaded}
+
+-- ---- stores
+
+-- what is stored from here on goes behind what was stored up to here
+sets-more : (a : List ℕ) (l : List ℕ) (i : ℕ) (b : List ℕ) → sets (sets l i a) (i + length a) b ≡ sets l i (a ++ b)
+sets-more [] l i b = ap (λ (j : ℕ). sets l j b) (omega arith)
+sets-more (x ∷ a) l i b = ap (λ (j : ℕ). sets (sets (set l i x) (suc i) a) j b) (omega arith) ∙ sets-more a (set l i x) (suc i) b
+
+-- ---- a line's rows
+
+-- one row of a line
+abbrev pub rowFor : ℕ → ℕ → ℕ → ℕ → Span → Row
+rowFor c g line at p = record { code = c; group = g; line = line; start = at + p .from; length = p .to - p .from }
+
+module _ (n c g line at : ℕ) (t : List ℕ) where
+  pub put-none : (ps : List Span) → length ps ≡ 0 → putRows n (rowsAt c g line at ps) t ≡ t
+  unfolding putRows rowsAt
+  put-none [] e = refl
+  put-none (p ∷ ps) e = absurd (omega arith)
+
+  put-first : (p : Span) (ps : List Span)
+      → putRows n (rowsAt c g line at (p ∷ ps)) t ≡ putRows (n + 1) (rowsAt (c + 1) g line at ps) (putRow n (rowFor c g line at p) t)
+  unfolding putRows rowsAt
+  put-first p ps = refl
+
+-- the i-th of a line's first k rows put: what is left is put behind it
+pub put-turn : (n c g line at i k : ℕ) (ps : List Span) (t : List ℕ) → i < k → k ≤ length ps
+    → putRows (n + i) (rowsAt (c + i) g line at (drop i (take k ps))) t
+    ≡ putRows (n + (i + 1)) (rowsAt (c + (i + 1)) g line at (drop (i + 1) (take k ps))) (putRow (n + i) (rowFor (c + i) g line at (getD ps i noSpan)) t)
+put-turn n c g line at i k ps t h j =
+    let q : length (take k ps) ≡ k = length-take-le k ps j in
+    let u : n + (i + 1) ≡ n + i + 1 = omega arith in
+    let v : c + (i + 1) ≡ c + i + 1 = omega arith in
+    let d : drop i (take k ps) ≡ getD ps i noSpan ∷ drop (i + 1) (take k ps) = rw (add-one i, ← getD-take k ps i noSpan h) (drop-cons (take k ps) i noSpan (omega arith)) in
+    rw (d, u, v) (put-first _ _ g line at t _ _)
+
+-- ---- what a step answers
+
+-- its spans lie in the line's text
+pub record Spans (s : List ℕ) (x : Step) : Type 0 where
+  pub few : x .count ≤ 7
+  pub size : length (x .spans) ≡ 7
+  pub inside : (i : ℕ) → i < x .count → Inside (getD (x .spans) i noSpan) s
+  pub code : x .code ≤ 45
+
+spans-good : {s : List ℕ} {x : Step} → Good s x → Spans s x
+spans-good (offence st r) = record { few = omega arith; size = refl; inside = λ i h. absurd (omega arith); code = omega arith }
+spans-good (none st) = record { few = omega arith; size = refl; inside = λ i h. absurd (omega arith); code = omega arith }
+spans-good (one st c p k h) =
+    record { few = omega arith; size = refl; inside = λ i j. let z : i ≡ 0 = omega arith in rw z h; code = k }
+spans-good (seven st ps h) = record { few = omega arith; size = h .size; inside = λ i j. h .inside i; code = omega arith }
+
+spans : (st : State) (s : List ℕ) → Spans s (stepOf st s)
+spans st s = spans-good (step-good s st)
+
+-- so its rows fit, where the text stands in the feed and the table has room
+pub step-fits : (st : State) (s : List ℕ) (x : Step) (n at : ℕ) (t : List ℕ) → x ≡ stepOf st s → at + length s ≤ 65535 → 10 * (n + x .count) ≤ length t
+    → StepFits x n at t
+step-fits st s x n at t e h r =
+    let w : Spans s x = rw e (spans st s) in
+    record {
+      few = w .few;
+      size = w .size;
+      order = λ i k. w .inside i k .order;
+      end = λ i k. omega (arith, w .inside i k .end);
+      code = w .code;
+      room = r;
+    }
+
+length-rows : (ps : List Span) (c g line at : ℕ) → length (rowsAt c g line at ps) ≡ length ps
+unfolding rowsAt
+length-rows [] c g line at = refl
+length-rows (p ∷ ps) c g line at = ap suc (length-rows ps (c + 1) g line at)
+
+-- a line has as many rows as its step says
+row-count : (st : State) (s : List ℕ) (x : Step) → x ≡ stepOf st s → (c g line at : ℕ) → length (rowsAt c g line at (take (x .count) (x .spans))) ≡ x .count
+row-count st s x e c g line at =
+    let w : Spans s x = rw e (spans st s) in
+    length-rows _ c g line at ∙ length-take-le _ _ (omega (arith, w .few, w .size))
+
+-- ---- a message's rows
+
+put-append : (xs ys : List Row) (n : ℕ) (t : List ℕ) → putRows n (xs ++ ys) t ≡ putRows (n + length xs) ys (putRows n xs t)
+unfolding putRows
+put-append [] ys n t = ap (λ (k : ℕ). putRows k ys t) (omega arith)
+put-append (x ∷ xs) ys n t = put-append xs ys (n + 1) (putRow n x t) ∙ ap (λ (k : ℕ). putRows k ys (putRows (n + 1) xs (putRow n x t))) (omega arith)
+
+pub fill-end : (st : State) (g line n : ℕ) (t : List ℕ) (ls : List Line) → ls ≡ [] → putRows n (rowsFrom st g line ls) t ≡ t
+unfolding putRows rowsFrom
+fill-end st g line n t ls e = rw e
+
+-- no message is both accepted and refused
+pub not-both : {j : Judged} {n l : ℕ} {r : Reason} → j ≡ Accepted n → j ≡ Refused r l → ⊥
+not-both p q = let z : _≡_ {A = ℕ} 0 1 = cc in omega arith
+
+-- a message that is accepted has as many rows as it was accepted with
+pub accepted : (ls : List Line) (st : State) (g line n total : ℕ) → judgeTexts st line n (texts ls) ≡ Accepted total
+    → n + length (rowsFrom st g line ls) ≡ total
+unfolding judgeTexts rowsFrom endOf
+accepted [] st g line n total = go (nextOf (st .form) (st .last) .end)
+  where
+    go : (t : Bool) → elim t [ true ↦ Accepted n | false ↦ Refused Reasons.Short line ] ≡ Accepted total → n + 0 ≡ total
+    go true e = let q : n ≡ total = cc in omega arith
+    go false e = absurd (not-both e refl)
+accepted (l ∷ ls) st g line n total =
+    let x = stepOf st (l .text) in
+    go (x .verdict) (accepted ls (x .state) (groupOf (st .form) g (x .code)) (line + 1) (n + x .count) total)
+  where
+    go : (v : Verdict) → let x = stepOf st (l .text) in let h = groupOf (st .form) g (x .code) in
+        (judgeTexts (x .state) (line + 1) (n + x .count) (texts ls) ≡ Accepted total → n + x .count + length (rowsFrom (x .state) h (line + 1) ls) ≡ total)
+        → elim v [ Wrong r ↦ Refused r line | Right ↦ judgeTexts (x .state) (line + 1) (n + x .count) (texts ls) ] ≡ Accepted total
+        → n + length (rowsAt (x .code) h line (l .start) (take (x .count) (x .spans)) ++ rowsFrom (x .state) h (line + 1) ls) ≡ total
+    go (Wrong r) ih e = absurd (not-both e refl)
+    go Right ih e = simp length-append (rw (row-count st (l .text) _ refl) (omega (arith, ih e)))
+
+-- a message's lines start with the first of those left
+first-same : (first : Bool) (a b : Line) (xs ys : List Line) → upTo first (a ∷ xs) ≡ b ∷ ys → a ≡ b
+unfolding upTo
+first-same first a b xs ys = go (not first && isHeading (a .text))
+  where
+    go : (t : Bool) → elim t [ true ↦ [] | false ↦ a ∷ upTo false xs ] ≡ b ∷ ys → a ≡ b
+    go true e = cc
+    go false e = cc
+
+-- the walk is at a line
+module _ (f : List ℕ) (at : ℕ) (first : Bool) (st : State) (m : Moved) (w : AtLine f at first st m) where
+  -- the line's rows put: what is left is put behind them
+  pub fill-turn : (g line n : ℕ) (t : List ℕ) → let x = m .step in let h = groupOf (st .form) g (x .code) in
+      putRows n (rowsFrom st g line (left f at first)) t
+      ≡ putRows (n + x .count) (rowsFrom (x .state) h (line + 1) (left f (m .next) false)) (putRows n (rowsAt (x .code) h line at (take (x .count) (x .spans))) t)
+  unfolding rowsFrom
+  fill-turn g line n t = rw (w .more) (rw (← w .step, put-append, row-count st (w .text) (m .step) (w .step)))
+
+  -- its text stands in the feed
+  pub line-inside : at + length (w .text) ≤ length f
+  line-inside =
+      let e = endsOf at (drop at f) in
+      let h : at < length f = omega (arith, w .on, w .next) in
+      let p = first-same first _ _ _ _ (ap (upTo first) (sym (line-left f at e h refl)) ∙ w .more) in
+      let q : take (e .end - at) (drop at f) ≡ w .text = ap (λ (l : Line). l .text) p in
+      rw (← q, length-take, length-drop) (omega arith)
+
+-- a group goes up by at most one
+next-le : (t : Bool) (g : ℕ) → elim t [ true ↦ g + 1 | false ↦ g ] ≤ g + 1
+next-le true g = omega arith
+next-le false g = omega arith
+
+pub group-le : (f : Form) (g c : ℕ) → groupOf f g c ≤ g + 1
+unfolding groupOf
+group-le Opm g c = next-le (eqb c 29) g
+group-le Oem g c = next-le (eqb c 37) g
+
+-- ---- a message by its number
+
+rows-lines : (ls : List Line) (n : ℕ) → judgeLines ls ≡ Accepted n → length (rowsLines ls) ≡ n
+unfolding judgeLines rowsLines
+rows-lines [] n e = absurd (not-both e refl)
+rows-lines (l ∷ ls) n e = omega (arith, accepted (l ∷ ls) (freshState (formOf (l .text))) 0 1 0 n e)
+
+module _ (f : List ℕ) (k n : ℕ) (e : judgeOf f k ≡ Accepted n) where
+  accepted-short : length f ≤ 65535
+  accepted-short = go (ltb 65535 (length f)) refl
+    where
+      go : (t : Bool) → ltb 65535 (length f) ≡ t → length f ≤ 65535
+      go true q = absurd (not-both e (judge-long f k (ltb-true _ _ q)))
+      go false q = ltb-false _ _ q
+
+  -- it has as many rows as it was accepted with
+  pub rows-count : length (rowsOf f k) ≡ n
+  unfolding judgeOf
+  rows-count = rows-lines (messageOf k f) n (rw (le-ltb _ _ accepted-short, judgeOf) at e)
+
+  pub not-missing : FoundIs Missing k f → ⊥
+  not-missing q = not-both e (judge-missing f k accepted-short q)
+
+  -- it stands where it was found
+  module _ (p : ℕ) (form : Form) (q : FoundIs (Place p form) k f) where
+    pub found-fillable : (t : List ℕ) → 10 * n ≤ length t → Fillable f p form n t
+    found-fillable t h = record { limit = accepted-short; right = sym (judge-found f k accepted-short p form q) ∙ e; room = h }
+
+    pub found-rows : rowsOf f k ≡ rowsFrom (freshState form) 0 1 (left f p true)
+    unfolding FoundIs messageOf rowsLines
+    found-rows =
+        let x = endsOf p (drop p f) in
+        rw (q .0, up-more f p x (q .1) refl true refl) (rw (text-left p (drop p f) x refl, q .2))
+
+-- ---- a load
+
+length-bytes : (rs : List Row) → length (tableBytes rs) ≡ 10 * length rs
+unfolding tableBytes
+length-bytes [] = refl
+length-bytes (r ∷ rs) = omega (arith, length-bytes rs)
+
+put-sets : (rs : List Row) (n : ℕ) (t : List ℕ) → putRows n rs t ≡ sets t (10 * n) (tableBytes rs)
+unfolding putRows putRow tableBytes
+put-sets [] n t = refl
+put-sets (r ∷ rs) n t =
+    put-sets rs (n + 1) (putRow n r t) ∙ ap (λ (j : ℕ). sets (putRow n r t) j (tableBytes rs)) (omega arith) ∙ sets-more (rowBytes r) t (10 * n) (tableBytes rs)
+
+-- the first rows' entries are filled, and the others as they came
+put-table : (rs : List Row) (n : ℕ) (t : List ℕ) → length rs ≡ n → 10 * n ≤ length t → putRows 0 rs t ≡ tableBytes rs ++ drop (10 * n) t
+put-table rs n t e h =
+    let q : 0 + length (tableBytes rs) ≡ 10 * n = omega (arith, length-bytes rs) in
+    put-sets rs 0 t ∙ sets-eq (tableBytes rs) t 0 (omega arith) ∙ ap (λ (j : ℕ). tableBytes rs ++ drop j t) q
+
+module _ (d : Desk) (f : List ℕ) (k : ℕ) (t : List ℕ) where
+  abbrev Answers : Loaded → Type 0
+  Answers x = loadOf d f k (length t) ≡ x
+
+  pub load-spent : d .load .0 ≡ topLoad → Answers (record { desk = d; answer = Refused Reasons.Spent 0 })
+  unfolding loadOf
+  load-spent h = rw (eq-eqb _ _ h, loadOf)
+
+  module _ (more : d .load .0 ≡ topLoad → ⊥) where
+    load-room : (j : Judged) → roomFor (length t) (judgeOf f k) ≡ j → Answers (record { desk = deskAfter d j; answer = j })
+    unfolding loadOf
+    load-room j e = rw (ne-eqb _ _ more, loadOf) (rw e)
+
+    pub load-refused : (r : Reason) (l : ℕ) → judgeOf f k ≡ Refused r l → Answers (record { desk = nextDesk d 0; answer = Refused r l })
+    unfolding roomFor deskAfter
+    load-refused r l e = load-room (Refused r l) (rw e)
+
+    pub load-full : (n : ℕ) → judgeOf f k ≡ Accepted n → length t < 10 * n → Answers (record { desk = nextDesk d 0; answer = Refused Reasons.NoRoom 0 })
+    unfolding roomFor deskAfter
+    load-full n e h = load-room (Refused Reasons.NoRoom 0) (rw e (rw (lt-ltb _ _ h, roomFor)))
+
+    pub load-right : (n : ℕ) → judgeOf f k ≡ Accepted n → 10 * n ≤ length t → Answers (record { desk = nextDesk d n; answer = Accepted n })
+    unfolding roomFor deskAfter
+    load-right n e h = load-room (Accepted n) (rw e (rw (le-ltb _ _ h, roomFor)))
+
+  -- and so the table is
+  pub table-kept : (b : Desk) (r : Reason) (l : ℕ) → Answers (record { desk = b; answer = Refused r l }) → t ≡ loadTable d f k t
+  unfolding tableAfter
+  table-kept b r l e = rw e
+
+  pub table-filled : (b : Desk) (n : ℕ) → Answers (record { desk = b; answer = Accepted n }) → judgeOf f k ≡ Accepted n → 10 * n ≤ length t
+      → putRows 0 (rowsOf f k) t ≡ loadTable d f k t
+  unfolding tableAfter
+  table-filled b n e q h = rw e (put-table (rowsOf f k) n t (rows-count f k n q) h)
