@@ -1,12 +1,18 @@
 # Two commands: `make run` is the main job, `make test` the gate.
-.PHONY: test run fuzz bench
+.PHONY: test run console fuzz bench
 
 test:
 	@.ci/run
 
+# The thin program on an example: FEED=.. for another.
+FEED ?= examples/figure-3-2.opm
 run:
-	@echo "The thin program that reads a feed and prints its rows comes with the desk; it is not here yet."
-	@echo "What is here is proved and tested by: make test"
+	@host/rows.sh $(FEED)
+
+# The console on an example, for a person: FEED=.. for another.
+console:
+	@rt staticlib odm >/dev/null
+	@host/console.sh $(FEED)
 
 # A million generated feeds, the product against the second program; another seed each time, printed.
 fuzz:

@@ -1,15 +1,18 @@
 //! Asks the product's C face, which runs as a child process, for its answers.
 //!
-//! A request is a kind (1), a feed's length and bytes, how many message numbers there are, and those numbers.
-//! An answer is what counting headings says, then for each number what judging says. See `face.c`.
+//! There is a kind of request for each thing that is asked: judging, placing and reading. Feeds and tables go over whole, and so
+//! does the table on its way back. `face.c` says byte by byte what a request and its answer are.
 
+use crate::desk::{Desk, Load, Reading};
 use std::io::{BufReader, Read, Write};
 use std::process::{Child, ChildStdin, ChildStdout, Command, Stdio};
 use std::sync::mpsc::{sync_channel, SyncSender};
 use std::thread::JoinHandle;
 
-/// The kind of a request that counts and judges; placing and reading get kinds of their own.
+/// The kinds of request.
 const JUDGE: u32 = 1;
+const PLACE: u32 = 2;
+const READ: u32 = 3;
 
 /// What the face says of one message: reason, line and rows, as the C struct has them.
 #[derive(Clone, Copy, Debug, PartialEq, Eq)]
@@ -25,6 +28,20 @@ pub struct Told {
     pub reason: u32,
     pub count: u32,
     pub judged: Vec<Judged>,
+}
+
+/// What the face says of a load: the numbers of the C struct, in its order, and the table as it is then.
+#[derive(Clone, Debug, PartialEq, Eq)]
+pub struct ToldLoad {
+    pub numbers: [u32; 4],
+    pub table: Vec<u8>,
+}
+
+/// What the face says to each ticket, in the C struct's order, and the table as it is then.
+#[derive(Clone, Debug, PartialEq, Eq)]
+pub struct ToldRows {
+    pub rows: Vec<[u32; 6]>,
+    pub table: Vec<u8>,
 }
 
 /// The child process, with a thread that writes to it so that neither side waits for the other.
@@ -58,8 +75,8 @@ impl Face {
         }
     }
 
-    /// The next answer, for a request with so many message numbers.
-    pub fn next(&mut self, messages: usize) -> Result<Told, String> {
+    /// The next answer, for a request to judge so many messages.
+    pub fn next_judged(&mut self, messages: usize) -> Result<Told, String> {
         let [reason, count] = self.numbers()?;
         let mut judged = Vec::with_capacity(messages);
         for _ in 0..messages {
@@ -69,14 +86,35 @@ impl Face {
         Ok(Told { reason, count, judged })
     }
 
+    /// The next answer, for a request to place.
+    pub fn next_placed(&mut self, load: &Load) -> Result<ToldLoad, String> {
+        Ok(ToldLoad { numbers: self.numbers()?, table: self.bytes(load.table.len())? })
+    }
+
+    /// The next answer, for a request to read.
+    pub fn next_read(&mut self, reading: &Reading) -> Result<ToldRows, String> {
+        let rows = reading.tickets.iter().map(|_| self.numbers()).collect::<Result<_, _>>()?;
+        Ok(ToldRows { rows, table: self.bytes(reading.table.len())? })
+    }
+
     fn numbers<const N: usize>(&mut self) -> Result<[u32; N], String> {
         let mut numbers = [0; N];
         for number in &mut numbers {
             let mut bytes = [0; 4];
-            self.answers.read_exact(&mut bytes).map_err(|_| "the face ended before it had answered".to_string())?;
+            self.fill(&mut bytes)?;
             *number = u32::from_le_bytes(bytes);
         }
         Ok(numbers)
+    }
+
+    fn bytes(&mut self, count: usize) -> Result<Vec<u8>, String> {
+        let mut bytes = vec![0; count];
+        self.fill(&mut bytes)?;
+        Ok(bytes)
+    }
+
+    fn fill(&mut self, bytes: &mut [u8]) -> Result<(), String> {
+        self.answers.read_exact(bytes).map_err(|_| "the face ended before it had answered".to_string())
     }
 
     /// Ends the face's input and waits for its end; it must have nothing more to say.
@@ -120,27 +158,83 @@ fn start_writer(mut stdin: ChildStdin) -> (SyncSender<Vec<u8>>, JoinHandle<()>) 
     (requests, writer)
 }
 
-/// Adds a request to a batch.
-pub fn add_request(batch: &mut Vec<u8>, feed: &[u8], messages: &[u64]) {
-    let size = |count: usize| u32::try_from(count).expect("no feed made here is that long").to_le_bytes();
-    batch.extend_from_slice(&JUDGE.to_le_bytes());
-    batch.extend_from_slice(&size(feed.len()));
-    batch.extend_from_slice(feed);
-    batch.extend_from_slice(&size(messages.len()));
-    for message in messages {
-        batch.extend_from_slice(&message.to_le_bytes());
+/// Adds a request to count headings and judge messages to a batch.
+pub fn add_judge(batch: &mut Vec<u8>, feed: &[u8], messages: &[u64]) {
+    add_number(batch, JUDGE);
+    add_block(batch, feed);
+    add_size(batch, messages.len());
+    messages.iter().for_each(|message| batch.extend_from_slice(&message.to_le_bytes()));
+}
+
+/// Adds a request to place a message to a batch.
+pub fn add_place(batch: &mut Vec<u8>, load: &Load) {
+    add_number(batch, PLACE);
+    add_desk(batch, load.desk);
+    add_block(batch, &load.feed);
+    batch.extend_from_slice(&load.message.to_le_bytes());
+    add_block(batch, &load.table);
+}
+
+/// Adds a request to read tickets to a batch.
+pub fn add_read(batch: &mut Vec<u8>, reading: &Reading) {
+    add_number(batch, READ);
+    add_desk(batch, reading.desk);
+    add_block(batch, &reading.feed);
+    add_block(batch, &reading.table);
+    add_size(batch, reading.tickets.len());
+    for ticket in &reading.tickets {
+        add_number(batch, ticket.load);
+        add_number(batch, ticket.row);
     }
+}
+
+fn add_number(batch: &mut Vec<u8>, number: u32) {
+    batch.extend_from_slice(&number.to_le_bytes());
+}
+
+fn add_size(batch: &mut Vec<u8>, size: usize) {
+    add_number(batch, u32::try_from(size).expect("nothing made here is that long"));
+}
+
+fn add_desk(batch: &mut Vec<u8>, desk: Desk) {
+    add_number(batch, desk.load);
+    add_number(batch, desk.count);
+}
+
+fn add_block(batch: &mut Vec<u8>, bytes: &[u8]) {
+    add_size(batch, bytes.len());
+    batch.extend_from_slice(bytes);
 }
 
 #[cfg(test)]
 mod tests {
     use super::*;
+    use crate::desk::Ticket;
 
     #[test]
-    fn a_request_is_written_low_byte_first() {
+    fn a_request_to_judge_is_written_low_byte_first() {
         let mut batch = Vec::new();
-        add_request(&mut batch, b"ab", &[1, 0x0102]);
+        add_judge(&mut batch, b"ab", &[1, 0x0102]);
         assert_eq!(batch, [1, 0, 0, 0, 2, 0, 0, 0, b'a', b'b', 2, 0, 0, 0, 1, 0, 0, 0, 0, 0, 0, 0, 2, 1, 0, 0, 0, 0, 0, 0]);
+    }
+
+    #[test]
+    fn a_request_to_place_is_written_low_byte_first() {
+        let mut batch = Vec::new();
+        let desk = Desk { load: 0x0304, count: 5 };
+        add_place(&mut batch, &Load { desk, feed: b"ab"[..].into(), message: 0x0607, table: vec![9] });
+        let feed = [2, 0, 0, 0, b'a', b'b'];
+        let message = [7, 6, 0, 0, 0, 0, 0, 0];
+        assert_eq!(batch, [&[2, 0, 0, 0, 4, 3, 0, 0, 5, 0, 0, 0][..], &feed, &message, &[1, 0, 0, 0, 9]].concat());
+    }
+
+    #[test]
+    fn a_request_to_read_is_written_low_byte_first() {
+        let mut batch = Vec::new();
+        let tickets = vec![Ticket { load: 0x0102, row: 3 }];
+        add_read(&mut batch, &Reading { desk: Desk { load: 4, count: 5 }, feed: b"a"[..].into(), table: Vec::new(), tickets });
+        let blocks = [1, 0, 0, 0, b'a', 0, 0, 0, 0];
+        assert_eq!(batch, [&[3, 0, 0, 0, 4, 0, 0, 0, 5, 0, 0, 0][..], &blocks, &[1, 0, 0, 0, 2, 1, 0, 0, 3, 0, 0, 0]].concat());
     }
 
     #[test]

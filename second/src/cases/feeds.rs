@@ -1,6 +1,6 @@
 //! Cases about whole feeds: figures, message numbers, headings, several messages, and sizes.
 
-use super::{oem, opm, row, wide_opm, Book, Sheet, Want};
+use super::{oem, opm, row, wide_opm, Book, Sheet, Want, FULL_ROWS};
 use crate::judge::Reason::{self, *};
 
 /// The figures of document 002 as printed.
@@ -21,30 +21,9 @@ pub(super) fn figures(book: &mut Book) {
 
 /// Document 01's feed, all its rows, and its variants.
 pub(super) fn full_feed(book: &mut Book) {
-    let rows: [[u16; 5]; 19] = [
-        [36, 0, 1, 15, 3],
-        [2, 0, 2, 33, 19],
-        [3, 0, 3, 64, 1],
-        [37, 1, 4, 76, 0],
-        [4, 1, 5, 89, 1],
-        [5, 1, 6, 101, 1],
-        [6, 1, 7, 115, 1],
-        [7, 1, 8, 127, 1],
-        [8, 1, 9, 141, 3],
-        [38, 1, 10, 156, 17],
-        [41, 1, 11, 184, 17],
-        [44, 1, 12, 211, 0],
-        [9, 1, 13, 212, 19],
-        [10, 1, 13, 232, 1],
-        [11, 1, 13, 234, 1],
-        [12, 1, 13, 236, 1],
-        [13, 1, 13, 238, 1],
-        [14, 1, 13, 240, 1],
-        [15, 1, 13, 242, 1],
-    ];
     let feed: Vec<u8> = oem().into();
     assert_eq!(feed.len(), 244, "document 01's feed has 244 bytes");
-    let shown: Vec<(usize, [u16; 5])> = rows.into_iter().enumerate().collect();
+    let shown: Vec<(usize, [u16; 5])> = FULL_ROWS.into_iter().enumerate().collect();
     book.shows("the feed in full", feed, 19, &shown);
     book.falls("the feed without line 13", oem().drop(13), Short, 13);
     book.falls("the feed with line 12 twice", oem().twice(12), Order, 13);

@@ -1,11 +1,13 @@
 //! Fixed cases: the figures of document 002, and every edge of document 01, each with its answer written by hand.
 
+mod desks;
 mod feeds;
 mod lines;
 mod orders;
 mod values;
 
 use crate::judge::{Reason, Row};
+pub use desks::{desks, DeskCases, LoadCase, ReadCase};
 
 /// The answer that a case must get.
 #[derive(Clone, Debug)]
@@ -29,7 +31,7 @@ pub struct Case {
     pub want: Want,
 }
 
-/// All fixed cases.
+/// All fixed cases about judging.
 pub fn all() -> Vec<Case> {
     let mut book = Book { cases: Vec::new() };
     feeds::figures(&mut book);
@@ -156,6 +158,29 @@ fn oem() -> Sheet {
     ])
 }
 
+/// The rows of document 01's feed.
+const FULL_ROWS: [[u16; 5]; 19] = [
+    [36, 0, 1, 15, 3],
+    [2, 0, 2, 33, 19],
+    [3, 0, 3, 64, 1],
+    [37, 1, 4, 76, 0],
+    [4, 1, 5, 89, 1],
+    [5, 1, 6, 101, 1],
+    [6, 1, 7, 115, 1],
+    [7, 1, 8, 127, 1],
+    [8, 1, 9, 141, 3],
+    [38, 1, 10, 156, 17],
+    [41, 1, 11, 184, 17],
+    [44, 1, 12, 211, 0],
+    [9, 1, 13, 212, 19],
+    [10, 1, 13, 232, 1],
+    [11, 1, 13, 234, 1],
+    [12, 1, 13, 236, 1],
+    [13, 1, 13, 238, 1],
+    [14, 1, 13, 240, 1],
+    [15, 1, 13, 242, 1],
+];
+
 /// An OEM of two segments with every option: META_START at 4 and 20, data at 17, 18, 19 and 29, 30; 60 rows.
 fn wide_oem() -> Sheet {
     Sheet::of(&[
@@ -194,16 +219,29 @@ fn wide_opm() -> Sheet {
 #[cfg(test)]
 mod tests {
     use super::*;
+    use crate::desk::{place, read};
     use crate::judge::{Answer, Feed};
+
+    fn all_differ(mut names: Vec<String>, least: usize) {
+        let count = names.len();
+        names.sort();
+        names.windows(2).for_each(|pair| assert_ne!(pair[0], pair[1]));
+        assert!(count >= least);
+    }
 
     #[test]
     fn names_differ() {
-        let mut names: Vec<String> = all().into_iter().map(|case| case.name).collect();
-        let count = names.len();
-        names.sort();
-        names.dedup();
-        assert_eq!(names.len(), count);
-        assert!(count >= 120);
+        all_differ(all().into_iter().map(|case| case.name).collect(), 120);
+        let DeskCases { loads, reads } = desks();
+        all_differ(loads.into_iter().map(|case| case.name).collect(), 120);
+        all_differ(reads.into_iter().map(|case| case.name).collect(), 120);
+    }
+
+    #[test]
+    fn the_desk_gives_the_answers_written_by_hand() {
+        let DeskCases { loads, reads } = desks();
+        loads.iter().for_each(|case| assert!(place(&case.load) == case.want, "{}", case.name));
+        reads.iter().for_each(|case| assert_eq!(read(&case.reading), case.want, "{}", case.name));
     }
 
     #[test]

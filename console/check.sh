@@ -1,0 +1,54 @@
+#!/usr/bin/env bash
+# Runs every session in console/sessions/ from the root of the repository and compares what the console said with what is stored.
+# Usage: console/check.sh COMMAND.., the command that starts the console, seen from the root: console/check.sh qemu-x86_64 build/console
+# A session is NAME.in (what is typed), NAME.args (one argument a line), NAME.out (what is said, and the exit status where it is not 0) and, where
+# the arguments have a speech command that writes build/sessions/NAME.said, NAME.said. What was said this time stays in build/sessions/.
+set -u
+cd "$(dirname "$0")/.." || exit 1
+if [ $# -eq 0 ]; then
+  echo "usage: console/check.sh COMMAND.."
+  exit 2
+fi
+stored=console/sessions
+fresh=build/sessions
+sessions=0
+failed=0
+
+make_feeds() { # the 244 bytes of whole.oem, then blank lines up to the limit of 65,535 bytes, and one byte past it
+  { cat "$stored/whole.oem"; head -c 65291 /dev/zero | tr '\0' '\n'; } >"$fresh/full.feed"
+  { cat "$fresh/full.feed"; echo; } >"$fresh/long.feed"
+}
+
+run() { # run NAME COMMAND..: one session
+  local name=$1 status arguments
+  shift
+  mapfile -t arguments <"$stored/$name.args"
+  timeout 120 "$@" "${arguments[@]}" <"$stored/$name.in" >"$fresh/$name.out" 2>&1
+  status=$?
+  [ "$status" -eq 0 ] || echo "exit status $status" >>"$fresh/$name.out"
+}
+
+same() { # same NAME: whether the session went as stored; the differences are printed
+  local result=0
+  diff -u "$stored/$1.out" "$fresh/$1.out" || result=1
+  if [ -e "$stored/$1.said" ]; then diff -u "$stored/$1.said" "$fresh/$1.said" || result=1; fi
+  return "$result"
+}
+
+rm -rf "$fresh"
+mkdir -p "$fresh"
+make_feeds
+for typed in "$stored"/*.in; do
+  name=$(basename "$typed" .in)
+  sessions=$((sessions + 1))
+  run "$name" "$@"
+  if ! same "$name"; then
+    echo "FAILED: session $name"
+    failed=$((failed + 1))
+  fi
+done
+if [ "$failed" -gt 0 ]; then
+  echo "$failed of $sessions sessions not as stored"
+  exit 1
+fi
+echo "$sessions sessions as stored"

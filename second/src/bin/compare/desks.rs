@@ -1,0 +1,160 @@
+//! Holds the second desk against what is known, and the face against the second desk.
+
+use crate::tally::Tally;
+use second::desk::{place, read, reason_name, Desk, Heard, Load, Placed, Reading, Ticket, FINE};
+use second::face::Face;
+use second::judge::Row;
+
+/// Facts about a load that differs.
+pub fn compare_load(
+    load: &Load,
+    known: &Placed,
+    generated: bool,
+    face: Option<&mut Face>,
+    tally: &mut Tally,
+) -> Result<Vec<String>, String> {
+    let placed = place(load);
+    tally.answers += 1;
+    if generated {
+        tally.loads.add(placed.reason);
+    }
+    let mut facts = other_placed(known_by(generated), known, "the second program", &placed);
+    if let Some(face) = face {
+        let told = face.next_placed(load)?;
+        let [load, count, reason, line] = told.numbers;
+        let told = Placed { desk: Desk { load, count }, reason, line, table: told.table };
+        facts.extend(other_placed("the second program", &placed, "the product", &told));
+    }
+    if !facts.is_empty() {
+        facts.insert(0, format!("message {} on a desk with {}", load.message, desk_words(load.desk)));
+    }
+    Ok(facts)
+}
+
+fn known_by(generated: bool) -> &'static str {
+    if generated {
+        "foretold"
+    } else {
+        "written by hand"
+    }
+}
+
+/// Facts about two answers to one load; the table's lengths are equal, since both had it lent.
+fn other_placed(one: &str, left: &Placed, other: &str, right: &Placed) -> Vec<String> {
+    let mut facts = Vec::new();
+    if (left.desk, left.reason, left.line) != (right.desk, right.reason, right.line) {
+        facts.push(format!("{one}: {}", placed_words(left)));
+        facts.push(format!("{other}: {}", placed_words(right)));
+    }
+    facts.extend(other_bytes(one, &left.table, other, &right.table));
+    facts
+}
+
+/// How many bytes of two tables differ, and the first of them.
+fn other_bytes(one: &str, left: &[u8], other: &str, right: &[u8]) -> Vec<String> {
+    let differ: Vec<usize> = (0..left.len()).filter(|at| left[*at] != right[*at]).collect();
+    let Some(at) = differ.first() else { return Vec::new() };
+    vec![
+        format!("bytes of the table that differ: {}, the first at {at}", differ.len()),
+        format!("{one}: byte {}", left[*at]),
+        format!("{other}: byte {}", right[*at]),
+    ]
+}
+
+/// Facts about tickets that differ.
+pub fn compare_read(
+    reading: &Reading,
+    known: &[Option<Heard>],
+    generated: bool,
+    face: Option<&mut Face>,
+    tally: &mut Tally,
+) -> Result<Vec<String>, String> {
+    let heard = read(reading);
+    tally.answers += heard.len();
+    if generated {
+        heard.iter().for_each(|answer| tally.tickets.add(answer.err().unwrap_or(FINE)));
+    }
+    let mut facts = other_heard(reading, known_by(generated), known, &heard);
+    if let Some(face) = face {
+        let told = face.next_read(reading)?;
+        facts.extend(other_told(reading, &heard, &told.rows));
+        facts.extend(other_bytes("before reading", &reading.table, "after it", &told.table));
+    }
+    if !facts.is_empty() {
+        facts.insert(0, format!("tickets on a desk with {}", desk_words(reading.desk)));
+    }
+    Ok(facts)
+}
+
+/// Facts about tickets that hear from the second desk what they must not.
+fn other_heard(reading: &Reading, by: &str, known: &[Option<Heard>], heard: &[Heard]) -> Vec<String> {
+    let mut facts = Vec::new();
+    for ((ticket, known), heard) in reading.tickets.iter().zip(known).zip(heard) {
+        if known.is_some_and(|known| known != *heard) {
+            facts.push(ticket_words(*ticket));
+            facts.extend(known.map(|known| format!("{by}: {}", heard_words(&known))));
+            facts.push(format!("the second program: {}", heard_words(heard)));
+        }
+    }
+    facts
+}
+
+/// Facts about tickets that hear from the face something else than from the second desk.
+fn other_told(reading: &Reading, heard: &[Heard], told: &[[u32; 6]]) -> Vec<String> {
+    let mut facts = Vec::new();
+    for ((ticket, heard), told) in reading.tickets.iter().zip(heard).zip(told) {
+        if *told != as_told(heard) {
+            facts.push(ticket_words(*ticket));
+            facts.push(format!("the second program: {}", heard_words(heard)));
+            facts.push(format!("the product: {}", told_words(told)));
+        }
+    }
+    facts
+}
+
+/// The numbers of the C struct; on a refusal all but the reason are 0.
+fn as_told(heard: &Heard) -> [u32; 6] {
+    match heard {
+        Ok(Row { code, group, line, start, length }) => {
+            [FINE, (*code).into(), (*group).into(), (*line).into(), (*start).into(), (*length).into()]
+        }
+        Err(reason) => [*reason, 0, 0, 0, 0, 0],
+    }
+}
+
+fn desk_words(desk: Desk) -> String {
+    format!("load {} and count {}", desk.load, desk.count)
+}
+
+fn ticket_words(ticket: Ticket) -> String {
+    format!("ticket of load {} and row {}", ticket.load, ticket.row)
+}
+
+/// A reason by its name, or by its number if it has none.
+fn reason_words(reason: u32) -> String {
+    reason_name(reason).map_or(format!("reason {reason}"), str::to_string)
+}
+
+fn placed_words(placed: &Placed) -> String {
+    let after = desk_words(placed.desk);
+    match (placed.reason, placed.line) {
+        (FINE, 0) => format!("accepted, then {after}"),
+        (FINE, line) => format!("accepted, but with line {line}, then {after}"),
+        (reason, line) => format!("refused {} at line {line}, then {after}", reason_words(reason)),
+    }
+}
+
+fn heard_words(heard: &Heard) -> String {
+    told_words(&as_told(heard))
+}
+
+/// What a ticket heard, in words; numbers that a refusal must not have are told as they stand.
+fn told_words(told: &[u32; 6]) -> String {
+    let [reason, code, group, line, start, length] = told;
+    let row = format!("code {code}, group {group}, line {line}, start {start}, length {length}");
+    match told {
+        [FINE, ..] => row,
+        [_, 0, 0, 0, 0, 0] => format!("refused {}", reason_words(*reason)),
+        _ => format!("refused {}, but with {row}", reason_words(*reason)),
+    }
+}

@@ -1,0 +1,179 @@
+//! Runs the second judge and desk beside the product's C face, on fixed cases and on generated feeds, and names every difference.
+
+mod desks;
+mod items;
+mod judging;
+mod tally;
+
+use items::{case_item, desk_items, generated_items, Ask, Item};
+use second::cases;
+use second::face::Face;
+use std::process::ExitCode;
+use std::time::{Duration, Instant};
+use tally::{Tally, FLOOR_FEEDS};
+
+const HELP: &str = "\
+compare --self [--seed N] [--feeds N]
+    runs the second program alone: fixed cases against their answers, sound feeds and calls on a desk against what is foretold
+compare [--seed N] [--feeds N] --face COMMAND...
+    runs it beside the product's C face; everything after --face is the command that starts the face";
+
+/// Calls that go to the face at a time.
+const BATCH: usize = 256;
+
+/// A run that differs this often has shown enough.
+const ENOUGH: usize = 10;
+
+struct Options {
+    seed: u64,
+    feeds: usize,
+    /// The command that starts the face, or nothing to run the second program alone.
+    face: Option<Vec<String>>,
+}
+
+fn main() -> ExitCode {
+    let arguments: Vec<String> = std::env::args().skip(1).collect();
+    if arguments.iter().any(|word| word == "--help") {
+        println!("{HELP}");
+        return ExitCode::SUCCESS;
+    }
+    match options(&arguments).and_then(|options| run(&options)) {
+        Ok(true) => ExitCode::SUCCESS,
+        Ok(false) => ExitCode::FAILURE,
+        Err(why) => {
+            println!("{why}");
+            println!("the comparison was not made, or not to its end");
+            ExitCode::FAILURE
+        }
+    }
+}
+
+fn options(arguments: &[String]) -> Result<Options, String> {
+    let mut options = Options { seed: 1, feeds: FLOOR_FEEDS, face: None };
+    let mut alone = false;
+    let mut at = 0;
+    while at < arguments.len() {
+        match arguments[at].as_str() {
+            "--self" => alone = true,
+            "--seed" => options.seed = number(arguments, &mut at)?,
+            "--feeds" => options.feeds = number(arguments, &mut at)? as usize,
+            "--face" => {
+                options.face = Some(arguments[at + 1..].to_vec());
+                break;
+            }
+            other => return Err(format!("not an option: {other}\n{HELP}")),
+        }
+        at += 1;
+    }
+    if alone == options.face.is_some() {
+        return Err(format!("give either --self or --face\n{HELP}"));
+    }
+    Ok(options)
+}
+
+fn number(arguments: &[String], at: &mut usize) -> Result<u64, String> {
+    *at += 1;
+    let word = arguments.get(*at).ok_or_else(|| format!("a number is missing after {}", arguments[*at - 1]))?;
+    word.parse().map_err(|_| format!("not a number: {word}"))
+}
+
+fn run(options: &Options) -> Result<bool, String> {
+    let (fixed, desks) = (cases::all(), cases::desks());
+    let feeds = fixed.len() + options.feeds;
+    println!("seed {}", options.seed);
+    println!("{} fixed cases of judging, {} of loads, {} of tickets", fixed.len(), desks.loads.len(), desks.reads.len());
+    println!("{} generated feeds", options.feeds);
+    let mut face = options.face.as_ref().map(|command| Face::start(command)).transpose()?;
+    let mut tally = Tally::new();
+    let generated = (0..options.feeds).flat_map(|turn| generated_items(options.seed, turn));
+    let items = fixed.into_iter().map(case_item).chain(desk_items(desks)).chain(generated);
+    let mut progress = Progress { last: Instant::now(), feeds };
+    compare_all(items, options, face.as_mut(), &mut tally, &mut progress)?;
+    // A run that has stopped early leaves answers unread, and says so by its differences.
+    if let Some(face) = face.as_mut().filter(|_| tally.differences < ENOUGH) {
+        face.finish()?;
+    }
+    Ok(tally.report(options.feeds))
+}
+
+/// Asks about everything in batches; the face works on one batch while the second program works on the one before.
+fn compare_all(
+    mut items: impl Iterator<Item = Item>,
+    options: &Options,
+    mut face: Option<&mut Face>,
+    tally: &mut Tally,
+    progress: &mut Progress,
+) -> Result<(), String> {
+    let mut waiting: Vec<Item> = Vec::new();
+    loop {
+        let batch: Vec<Item> = items.by_ref().take(BATCH).collect();
+        if let Some(face) = face.as_deref_mut().filter(|_| !batch.is_empty()) {
+            face.send(requests(&batch));
+        }
+        for (at, item) in waiting.iter().enumerate() {
+            let rest = || waiting[at..].iter().chain(&batch);
+            compare(item, face.as_deref_mut(), tally).map_err(|why| format!("{why}\n{}", blame(rest(), options, tally)))?;
+            if tally.differences >= ENOUGH {
+                println!("{ENOUGH} differences are enough, the rest was left out");
+                return Ok(());
+            }
+        }
+        progress.tell(tally);
+        if batch.is_empty() {
+            return Ok(());
+        }
+        waiting = batch;
+    }
+}
+
+/// Says which call the face does not outlive, by asking a fresh face for each, since answers come many at a time.
+fn blame<'i>(mut items: impl Iterator<Item = &'i Item>, options: &Options, tally: &mut Tally) -> String {
+    let command = options.face.clone().unwrap_or_default();
+    let survives = |item: &&Item| {
+        let Ok(mut face) = Face::start(&command) else { return false };
+        face.send(requests([*item]));
+        item.is_answered_by(&mut face)
+    };
+    tally.differences += 1;
+    match items.find(|item| !survives(item)) {
+        Some(item) => format!("the call that it does not outlive: {}\n{}", item.name, tally.keep(item)),
+        None => "no single call makes it end".to_string(),
+    }
+}
+
+fn requests<'i>(batch: impl IntoIterator<Item = &'i Item>) -> Vec<u8> {
+    let mut bytes = Vec::new();
+    batch.into_iter().for_each(|item| item.add_to(&mut bytes));
+    bytes
+}
+
+/// Tells of a long run every few seconds.
+struct Progress {
+    last: Instant,
+    feeds: usize,
+}
+
+impl Progress {
+    fn tell(&mut self, tally: &Tally) {
+        if self.last.elapsed() >= Duration::from_secs(3) {
+            eprintln!("{} of {} feeds done, {} differences so far", tally.feeds, self.feeds, tally.differences);
+            self.last = Instant::now();
+        }
+    }
+}
+
+/// Asks the second program and the face, and tells what differs.
+fn compare(item: &Item, face: Option<&mut Face>, tally: &mut Tally) -> Result<(), String> {
+    let facts = match &item.ask {
+        Ask::Judge(judging) => judging::compare_judged(judging, item.generated, face, tally),
+        Ask::Load(load, known) => desks::compare_load(load, known, item.generated, face, tally),
+        Ask::Read(reading, known) => desks::compare_read(reading, known, item.generated, face, tally),
+    }?;
+    if !facts.is_empty() {
+        tally.differences += 1;
+        println!("difference {}: {}", tally.differences, item.name);
+        facts.iter().for_each(|fact| println!("{fact}"));
+        println!("{}", tally.keep(item));
+    }
+    Ok(())
+}

@@ -1,0 +1,116 @@
+//! What has been counted, what it says at the end, and what is kept of a difference.
+
+use crate::items::Item;
+use second::desk::reason_name;
+use std::ops::RangeInclusive;
+use std::path::{Path, PathBuf};
+
+/// Each 20,000 generated feeds must bring every reason this often.
+const FLOOR: usize = 100;
+pub const FLOOR_FEEDS: usize = 20_000;
+
+/// How often each answer came to one kind of call; number 0 is the good answer.
+pub struct Counts {
+    what: &'static str,
+    good: &'static str,
+    reasons: RangeInclusive<u32>,
+    counts: [usize; 17],
+}
+
+impl Counts {
+    fn new(what: &'static str, good: &'static str, reasons: RangeInclusive<u32>) -> Counts {
+        Counts { what, good, reasons, counts: [0; 17] }
+    }
+
+    pub fn add(&mut self, reason: u32) {
+        self.counts[reason as usize] += 1;
+    }
+
+    /// The reasons that this kind of call can give, by name, with their counts.
+    fn named(&self) -> impl Iterator<Item = (&'static str, usize)> + '_ {
+        self.reasons.clone().map(|reason| (reason_name(reason).unwrap_or("no name"), self.counts[reason as usize]))
+    }
+
+    fn rare(&self, floor: usize) -> Vec<String> {
+        let few = self.named().filter(|(_, count)| *count < floor);
+        few.map(|(name, count)| format!("{}: {name} came only {count} times, {floor} are wanted", self.what)).collect()
+    }
+
+    fn words(&self) -> String {
+        let words: Vec<String> = self.named().map(|(name, count)| format!("{name} {count}")).collect();
+        format!("{}: {} {}, {}", self.what, self.good, self.counts[0], words.join(", "))
+    }
+}
+
+/// What has been counted so far; the reasons are those of generated feeds alone.
+pub struct Tally {
+    pub feeds: usize,
+    pub answers: usize,
+    pub differences: usize,
+    pub judged: Counts,
+    pub loads: Counts,
+    pub tickets: Counts,
+    save: PathBuf,
+}
+
+impl Tally {
+    pub fn new() -> Tally {
+        Tally {
+            feeds: 0,
+            answers: 0,
+            differences: 0,
+            judged: Counts::new("generated judgements", "accepted", 1..=11),
+            loads: Counts::new("generated loads", "accepted", 1..=13),
+            tickets: Counts::new("generated tickets", "answered", 14..=16),
+            save: save_directory(),
+        }
+    }
+
+    /// Says what was counted; true if there was no difference and every reason came often enough.
+    pub fn report(&self, generated: usize) -> bool {
+        let floor = if generated < FLOOR_FEEDS { 0 } else { FLOOR * (generated / FLOOR_FEEDS) };
+        let kinds = [&self.judged, &self.loads, &self.tickets];
+        let rare: Vec<String> = kinds.iter().flat_map(|counts| counts.rare(floor)).collect();
+        // A run that stopped early has not had the time to bring every reason.
+        let too_rare = self.differences == 0 && !rare.is_empty();
+        if too_rare {
+            rare.iter().for_each(|words| println!("{words}"));
+        }
+        kinds.iter().for_each(|counts| println!("{}", counts.words()));
+        println!("{} feeds, {} answers, {} differences", self.feeds, self.answers, self.differences);
+        self.differences == 0 && !too_rare
+    }
+
+    /// Keeps the feed of a difference, and the table if there is one, and says where.
+    pub fn keep(&self, item: &Item) -> String {
+        let words = self.keep_as("feed", item.feed());
+        item.table().map_or(words.clone(), |table| format!("{words}\n{}", self.keep_as("table", table)))
+    }
+
+    fn keep_as(&self, what: &str, bytes: &[u8]) -> String {
+        let path = self.save.join(format!("difference-{}.{what}", self.differences));
+        match write_file(&path, bytes) {
+            Ok(()) => format!("the {what} is kept in {}", path.display()),
+            Err(error) => format!("the {what} could not be kept in {}: {error}", path.display()),
+        }
+    }
+}
+
+/// The directory `build` of the repository, wherever within it the program is started.
+fn save_directory() -> PathBuf {
+    let mut root = PathBuf::new();
+    for _ in 0..4 {
+        if root.join("second/Cargo.toml").is_file() {
+            return root.join("build");
+        }
+        root.push("..");
+    }
+    PathBuf::from("build")
+}
+
+fn write_file(path: &Path, bytes: &[u8]) -> std::io::Result<()> {
+    if let Some(directory) = path.parent() {
+        std::fs::create_dir_all(directory)?;
+    }
+    std::fs::write(path, bytes)
+}

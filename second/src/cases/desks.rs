@@ -1,0 +1,482 @@
+//! Cases about loads and tickets: what a load leaves of desk and table, and what a ticket hears.
+
+use super::{oem, opm, row, FULL_ROWS};
+use crate::desk::{Desk, Heard, Load, Placed, Reading, Ticket, ASTRAY, FINE, FRESH, GONE, NO_ROOM, NO_ROW, SPENT};
+use crate::judge::Reason::{self, *};
+
+/// One load, and what must come of it, down to every byte of the table.
+#[derive(Clone, Debug)]
+pub struct LoadCase {
+    pub name: String,
+    pub load: Load,
+    pub want: Placed,
+}
+
+/// Tickets, and what each must hear.
+#[derive(Clone, Debug)]
+pub struct ReadCase {
+    pub name: String,
+    pub reading: Reading,
+    pub want: Vec<Heard>,
+}
+
+/// The cases as they are gathered.
+#[derive(Debug, Default)]
+pub struct DeskCases {
+    pub loads: Vec<LoadCase>,
+    pub reads: Vec<ReadCase>,
+}
+
+/// All fixed cases about loads and tickets.
+pub fn desks() -> DeskCases {
+    let mut book = DeskCases::default();
+    room(&mut book);
+    high_bytes(&mut book);
+    great_tables(&mut book);
+    many_rows(&mut book);
+    load_numbers(&mut book);
+    spent_first(&mut book);
+    feed_long_next(&mut book);
+    messages(&mut book);
+    wrong_messages(&mut book);
+    own_rows(&mut book);
+    other_loads(&mut book);
+    rows_past_the_count(&mut book);
+    after_refusals(&mut book);
+    tables_cut(&mut book);
+    rows_far_out(&mut book);
+    feeds_cut(&mut book);
+    strange_tables(&mut book);
+    order_of_reading(&mut book);
+    book
+}
+
+const TOP: u32 = 4_294_967_295;
+
+/// The desk after the feed in full was placed on a fresh one.
+const FULL: Desk = Desk { load: 1, count: 19 };
+
+fn desk(load: u32, count: u32) -> Desk {
+    Desk { load, count }
+}
+
+fn full() -> Vec<u8> {
+    oem().into()
+}
+
+/// Old bytes of a table, each unlike those about it, so that a touched one shows.
+fn lent(size: usize) -> Vec<u8> {
+    (0..size).map(|at| (at * 37 + 11) as u8).collect()
+}
+
+/// A lent table of this size with rows over its front.
+fn over(rows: &[[u16; 5]], size: usize) -> Vec<u8> {
+    let front: Vec<u8> = rows.iter().flatten().flat_map(|number| number.to_le_bytes()).collect();
+    [&front[..], &lent(size)[front.len()..]].concat()
+}
+
+/// A table of this size after the feed in full was placed in it.
+fn filled(size: usize) -> Vec<u8> {
+    over(&FULL_ROWS, size)
+}
+
+impl DeskCases {
+    fn load(&mut self, name: &str, before: Desk, (feed, message): (Vec<u8>, u64), table: Vec<u8>, want: Placed) {
+        self.loads.push(LoadCase { name: name.to_string(), load: Load { desk: before, feed: feed.into(), message, table }, want });
+    }
+
+    /// The feed in full on a table of this size.
+    fn stands(&mut self, name: &str, before: Desk, size: usize, after: Desk) {
+        let want = Placed { desk: after, reason: FINE, line: 0, table: filled(size) };
+        self.load(name, before, (full(), 1), lent(size), want);
+    }
+
+    /// A load that leaves every byte of the table.
+    fn falls(&mut self, name: &str, before: Desk, asked: (Vec<u8>, u64), size: usize, (after, reason, line): (Desk, u32, u32)) {
+        self.load(name, before, asked, lent(size), Placed { desk: after, reason, line, table: lent(size) });
+    }
+
+    fn read(&mut self, name: &str, at: Desk, ticket: (u32, u32), (feed, table): (Vec<u8>, Vec<u8>), want: Result<[u16; 5], u32>) {
+        let tickets = vec![Ticket { load: ticket.0, row: ticket.1 }];
+        let reading = Reading { desk: at, feed: feed.into(), table, tickets };
+        self.reads.push(ReadCase { name: name.to_string(), reading, want: vec![want.map(row)] });
+    }
+
+    /// A ticket on the feed in full and its table of 190 bytes.
+    fn hears(&mut self, name: &str, at: Desk, ticket: (u32, u32), want: Result<[u16; 5], u32>) {
+        self.read(name, at, ticket, (full(), filled(190)), want);
+    }
+}
+
+/// The feed in full needs 95 entries; 94 and an odd byte are too few.
+fn room(book: &mut DeskCases) {
+    for size in [0, 1, 2, 9, 10, 94, 95, 180, 187, 188, 189] {
+        book.falls(&format!("no room in {size} bytes"), FRESH, (full(), 1), size, (desk(1, 0), NO_ROOM, 0));
+    }
+    for size in [190, 191, 192, 193, 199, 200, 201, 380, 951] {
+        book.stands(&format!("room in {size} bytes"), FRESH, size, desk(1, 19));
+    }
+    book.falls("no room on a desk with rows", FULL, (full(), 1), 189, (desk(2, 0), NO_ROOM, 0));
+    book.stands("room on a desk with rows", FULL, 191, desk(2, 19));
+    book.stands("room on a desk with more rows than any table", desk(6, TOP), 190, desk(7, 19));
+    let again = Placed { desk: desk(2, 19), reason: FINE, line: 0, table: filled(195) };
+    book.load("the same feed over its own rows", FULL, (full(), 1), filled(195), again);
+    book.falls("no room for an OPM of 20 rows", FRESH, (opm().into(), 1), 199, (desk(1, 0), NO_ROOM, 0));
+}
+
+/// Numbers over 255, byte by byte: line 65,296 is FF10, start 65,534 is FFFE.
+fn high_bytes(book: &mut DeskCases) {
+    let feed = [full(), vec![b'\n'; 65_282], b"COMMENT x".to_vec()].concat();
+    let last = [45, 0, 1, 0, 0x10, 0xFF, 0xFE, 0xFF, 1, 0];
+    let table = [&filled(190)[..], &last, &lent(203)[200..]].concat();
+    let want = Placed { desk: desk(1, 20), reason: FINE, line: 0, table: table.clone() };
+    book.load("low byte first in the greatest feed", FRESH, (feed.clone(), 1), lent(203), want);
+    book.falls("no room in the greatest feed", FRESH, (feed.clone(), 1), 199, (desk(1, 0), NO_ROOM, 0));
+    let value = [45, 1, 65_296, 65_534, 1];
+    book.read("low byte first, read back", desk(1, 20), (1, 19), (feed.clone(), table.clone()), Ok(value));
+    book.read("the greatest feed without its last byte", desk(1, 20), (1, 19), (feed[..65_534].to_vec(), table), Err(ASTRAY));
+}
+
+/// Tables whose length or count of entries does not fit 16 bits.
+fn great_tables(book: &mut DeskCases) {
+    for size in [65_535, 65_536, 131_070, 131_071, 131_072, 131_073, 150_001] {
+        book.stands(&format!("room in {size} bytes"), FRESH, size, desk(1, 19));
+    }
+    book.read("the last row of a great table's rows", FULL, (1, 18), (full(), filled(150_001)), Ok(FULL_ROWS[18]));
+}
+
+/// 2,000 data lines of 30 bytes from byte 212 on: 14,012 rows, 70,060 entries, which is 4,524 in 16 bits.
+fn many_rows(book: &mut DeskCases) {
+    let data: String = (0..2_000).map(|at| format!("2000-001T00:{:02}:{:02} 1 2 3 4 5 6\n", at / 60, at % 60)).collect();
+    let head = oem().put(11, "STOP_TIME=2000-002T00:00:00").drop(13).ended(b"\n");
+    let feed = [head, data.into_bytes()].concat();
+    let data_rows = (0..2_000).flat_map(|at: u16| {
+        let (line, start) = (13 + at, 212 + 30 * at);
+        let number = move |field: u16| [10 + field, 1, line, start + 18 + 2 * field, 1];
+        [[9, 1, line, start, 17]].into_iter().chain((0..6).map(number))
+    });
+    let rows: Vec<[u16; 5]> = FULL_ROWS[..12].iter().copied().chain(data_rows).collect();
+    for size in [0, 9_048, 9_050, 131_072, 140_118, 140_119] {
+        book.falls(&format!("no room for 14,012 rows in {size} bytes"), FRESH, (feed.clone(), 1), size, (desk(1, 0), NO_ROOM, 0));
+    }
+    for size in [140_120, 140_121] {
+        let want = Placed { desk: desk(1, 14_012), reason: FINE, line: 0, table: over(&rows, size) };
+        book.load(&format!("14,012 rows in {size} bytes"), FRESH, (feed.clone(), 1), lent(size), want);
+    }
+    let mut at = |row: u32, size: usize, want| {
+        let name = format!("row {row} of 14,012, table of {size} bytes");
+        book.read(&name, desk(1, 14_012), (1, row), (feed.clone(), over(&rows, 140_120)[..size].to_vec()), want);
+    };
+    at(13_107, 140_120, Ok([14, 1, 1_883, 56_338, 1]));
+    at(13_108, 140_120, Ok([15, 1, 1_883, 56_340, 1]));
+    at(14_011, 140_120, Ok([15, 1, 2_012, 60_210, 1]));
+    at(14_011, 140_119, Err(ASTRAY));
+    at(14_011, 131_072, Err(ASTRAY));
+    at(14_012, 140_120, Err(NO_ROW));
+}
+
+fn load_numbers(book: &mut DeskCases) {
+    let steps = [
+        (0, 1),
+        (1, 2),
+        (255, 256),
+        (65_535, 65_536),
+        (2_147_483_647, 2_147_483_648),
+        (4_294_967_293, 4_294_967_294),
+        (4_294_967_294, TOP),
+    ];
+    for (before, after) in steps {
+        book.stands(&format!("accepted on load {before}"), desk(before, 3), 190, desk(after, 19));
+        let named = |why: &str| format!("{why} on load {before}");
+        book.falls(&named("no room"), desk(before, 3), (full(), 1), 188, (desk(after, 0), NO_ROOM, 0));
+        book.falls(&named("no message"), desk(before, 3), (full(), 2), 190, (desk(after, 0), 2, 0));
+        book.falls(&named("out of order"), desk(before, 3), (oem().twice(12).into(), 1), 190, (desk(after, 0), 7, 13));
+        book.falls(&named("short"), desk(before, 3), (oem().drop(13).into(), 1), 190, (desk(after, 0), 11, 13));
+        book.falls(&named("feed long"), desk(before, 3), (vec![b'\n'; 65_536], 1), 190, (desk(after, 0), 1, 0));
+    }
+    for count in [0, 1, 19, 65_536, TOP] {
+        book.falls(&format!("spent with count {count}"), desk(TOP, count), (full(), 1), 400, (desk(TOP, count), SPENT, 0));
+    }
+    let spent = Placed { desk: desk(TOP, 19), reason: SPENT, line: 0, table: filled(191) };
+    book.load("spent over its own rows", desk(TOP, 19), (opm().into(), 1), filled(191), spent);
+}
+
+/// Wrong messages, each with document 01's number and the line.
+fn wrong() -> [(Reason, u32, Vec<u8>); 10] {
+    [
+        (Long, 5, oem().put(5, format!("{:255}", "OBJECT_NAME=B")).into()),
+        (Byte, 5, oem().put(5, "OBJECT_NAME=\t").into()),
+        (Form, 5, oem().put(5, "OBJECT_NAME").into()),
+        (Keyword, 5, oem().put(5, "NAME=B").into()),
+        (Order, 13, oem().twice(12).into()),
+        (Value, 5, oem().put(5, "OBJECT_NAME=").into()),
+        (Unit, 10, opm().put(10, "X=1 [km]").into()),
+        (TimeOrder, 11, oem().put(11, "STOP_TIME=1999-001T00:00:00").into()),
+        (Short, 13, oem().drop(13).into()),
+        // The fault comes after every row has been seen.
+        (Form, 14, oem().add("x").into()),
+    ]
+}
+
+/// SPENT comes before every other reason.
+fn spent_first(book: &mut DeskCases) {
+    let mut spent = |name: &str, feed: Vec<u8>, message: u64, size: usize| {
+        book.falls(&format!("spent before {name}"), desk(TOP, 19), (feed, message), size, (desk(TOP, 19), SPENT, 0));
+    };
+    spent("feed long", vec![b'\n'; 65_536], 1, 190);
+    spent("feed long, no message and no room", vec![b'\n'; 65_536], 0, 0);
+    spent("message 0", full(), 0, 190);
+    spent("message 2", full(), 2, 190);
+    spent("the greatest message number", full(), u64::MAX, 190);
+    spent("an empty feed", Vec::new(), 1, 190);
+    spent("an empty feed, message 0 and an empty table", Vec::new(), 0, 0);
+    spent("no room", full(), 1, 189);
+    spent("no room at all", full(), 1, 0);
+    for (reason, line, feed) in wrong() {
+        spent(&format!("{} at {line}", reason.name()), feed, 1, 190);
+    }
+}
+
+/// FEED_LONG comes before the message number, the lines and the room.
+fn feed_long_next(book: &mut DeskCases) {
+    for (name, head) in [("a right message", full()), ("a wrong message", oem().drop(2).into()), ("no message", Vec::new())] {
+        let feed = [head.clone(), vec![b'\n'; 65_536 - head.len()]].concat();
+        for message in [0, 1, 2, u64::MAX] {
+            for size in [0, 189, 190] {
+                let name = format!("feed long with {name}, message {message}, table of {size} bytes");
+                book.falls(&name, FULL, (feed.clone(), message), size, (desk(2, 0), 1, 0));
+            }
+        }
+    }
+    let feed = [full(), vec![b'\n'; 131_073 - 244]].concat();
+    book.falls("feed of 131,073 bytes", FULL, (feed, 1), 190, (desk(2, 0), 1, 0));
+}
+
+/// Message numbers, and which message is placed.
+fn messages(book: &mut DeskCases) {
+    for message in [0, 2, 3, 65_536, 65_537, 4_294_967_296, 4_294_967_297, 1 << 63, (1 << 63) + 1, u64::MAX] {
+        for size in [0, 189, 190] {
+            let name = format!("message {message} of one, table of {size} bytes");
+            book.falls(&name, FULL, (full(), message), size, (desk(2, 0), 2, 0));
+        }
+    }
+    for message in [0, 1, u64::MAX] {
+        book.falls(&format!("empty feed, message {message}"), FRESH, (Vec::new(), message), 190, (desk(1, 0), 2, 0));
+        book.falls(&format!("nothing at all, message {message}"), FRESH, (Vec::new(), message), 0, (desk(1, 0), 2, 0));
+    }
+    let moved = |by: u16| FULL_ROWS.map(|[code, group, line, start, length]| [code, group, line, start + by, length]);
+    let two = [full(), full()].concat();
+    let placed = |rows: &[[u16; 5]]| Placed { desk: desk(1, 19), reason: FINE, line: 0, table: over(rows, 193) };
+    book.load("the first of two", FRESH, (two.clone(), 1), lent(193), placed(&FULL_ROWS));
+    book.load("the second of two", FRESH, (two.clone(), 2), lent(193), placed(&moved(244)));
+    book.falls("the third of two", FRESH, (two, 3), 193, (desk(1, 0), 2, 0));
+    book.load("a line before the heading", FRESH, ([b"x\n".to_vec(), full()].concat(), 1), lent(193), placed(&moved(2)));
+    let pair: Vec<u8> = [oem().drop(13).into(), full()].concat();
+    book.falls("a wrong message before a right one", FRESH, (pair.clone(), 1), 193, (desk(1, 0), 11, 13));
+    book.load("a right message after a wrong one", FRESH, (pair, 2), lent(193), placed(&moved(212)));
+}
+
+/// A wrong message keeps the table, however much room there is, and comes before NO_ROOM.
+fn wrong_messages(book: &mut DeskCases) {
+    for (reason, line, feed) in wrong() {
+        for size in [0, 1, 189, 190, 1_001] {
+            let name = format!("{} at {line}, table of {size} bytes", reason.name());
+            book.falls(&name, FULL, (feed.clone(), 1), size, (desk(2, 0), reason.number(), line));
+        }
+    }
+}
+
+/// Each ticket of the present load hears its own row, whatever the tail of the table.
+fn own_rows(book: &mut DeskCases) {
+    for (number, want) in (0..).zip(FULL_ROWS) {
+        book.hears(&format!("row {number} of the feed in full"), FULL, (1, number), Ok(want));
+    }
+    for size in [190, 191, 192, 199, 200, 400, 65_536] {
+        let tickets: Vec<Ticket> = (0..20).map(|row| Ticket { load: 1, row }).collect();
+        let reading = Reading { desk: FULL, feed: full().into(), table: filled(size), tickets };
+        let want = FULL_ROWS.into_iter().map(|numbers| Ok(row(numbers))).chain([Err(NO_ROW)]).collect();
+        book.reads.push(ReadCase { name: format!("every row and one more, table of {size} bytes"), reading, want });
+    }
+    for load in [2, 256, 65_536, 2_147_483_648, 4_294_967_294, TOP] {
+        book.hears(&format!("a row of load {load}"), desk(load, 19), (load, 9), Ok([38, 1, 10, 156, 17]));
+    }
+    book.hears("the only row of a desk with one", desk(1, 1), (1, 0), Ok([36, 0, 1, 15, 3]));
+}
+
+/// Tickets of another load than the desk's.
+fn other_loads(book: &mut DeskCases) {
+    let mut gone = |name: &str, at: Desk, ticket: (u32, u32)| book.hears(&format!("gone: {name}"), at, ticket, Err(GONE));
+    gone("the load before", desk(2, 19), (1, 0));
+    gone("the load before the top", desk(TOP, 19), (4_294_967_294, 0));
+    gone("the first load", desk(9, 19), (1, 18));
+    gone("load 0", FULL, (0, 0));
+    gone("load 0 at the top", desk(TOP, 19), (0, 0));
+    gone("the next load", FULL, (2, 0));
+    gone("the next load, of a fresh desk", FRESH, (1, 0));
+    gone("the top load", FULL, (TOP, 0));
+    gone("the top load, of a fresh desk", FRESH, (TOP, 0));
+    gone("the same in 8 bits", FULL, (257, 0));
+    gone("the same in 16 bits", FULL, (65_537, 0));
+    gone("the same in 31 bits", FULL, (2_147_483_649, 0));
+    gone("the desk's the same in 16 bits", desk(65_537, 19), (1, 0));
+    gone("load and row changed for each other", desk(5, 19), (1, 5));
+    gone("the desk's count for a load", desk(5, 19), (19, 5));
+}
+
+/// Rows at the count and past it.
+fn rows_past_the_count(book: &mut DeskCases) {
+    for (load, count) in [(0, 0), (1, 0), (1, 1), (1, 18), (1, 19), (TOP, 19)] {
+        for ahead in [0, 1, 237, 256, 65_536] {
+            let number = count + ahead;
+            book.hears(&format!("row {number} of {count}, load {load}"), desk(load, count), (load, number), Err(NO_ROW));
+        }
+        book.hears(&format!("row {TOP} of {count}, load {load}"), desk(load, count), (load, TOP), Err(NO_ROW));
+    }
+    book.hears("the load for a row", desk(19, 19), (19, 19), Err(NO_ROW));
+    book.hears("the last row number there can be", desk(1, TOP), (1, TOP), Err(NO_ROW));
+    for number in [0, 1, TOP] {
+        let none = (Vec::new(), Vec::new());
+        book.read(&format!("row {number} of a fresh desk, nothing lent"), FRESH, (0, number), none, Err(NO_ROW));
+    }
+}
+
+/// After any refusal but SPENT the tickets before it are gone, and the refused load has no rows, though the table still holds them.
+fn after_refusals(book: &mut DeskCases) {
+    let table = || filled(191);
+    let mut refusals: Vec<(String, Vec<u8>, u64, u32, u32)> = vec![
+        ("feed long".to_string(), vec![b'\n'; 65_536], 1, 1, 0),
+        ("no message".to_string(), full(), 0, 2, 0),
+        ("no room".to_string(), opm().into(), 1, NO_ROOM, 0),
+    ];
+    refusals.extend(wrong().map(|(reason, line, feed)| (format!("{} at {line}", reason.name()), feed, 1, reason.number(), line)));
+    for (name, feed, message, reason, line) in refusals {
+        let want = Placed { desk: desk(2, 0), reason, line, table: table() };
+        book.load(&format!("rows left in the table by {name}"), FULL, (feed, message), table(), want);
+    }
+    book.read("the ticket before a refused load", desk(2, 0), (1, 0), (full(), table()), Err(GONE));
+    book.read("a ticket of the refused load", desk(2, 0), (2, 0), (full(), table()), Err(NO_ROW));
+    book.read("a ticket of the load after a refused one", desk(2, 0), (3, 0), (full(), table()), Err(GONE));
+    book.read("the ticket before a spent load", desk(TOP, 19), (TOP, 0), (full(), table()), Ok([36, 0, 1, 15, 3]));
+}
+
+/// Tables cut after the load, or lengthened: row n needs 10 bytes from 10n on.
+fn tables_cut(book: &mut DeskCases) {
+    let mut at = |number: u32, size: usize, want| {
+        let table = filled(400)[..size].to_vec();
+        book.read(&format!("row {number}, table of {size} bytes"), FULL, (1, number), (full(), table), want);
+    };
+    for size in [0, 1, 2, 8, 9] {
+        at(0, size, Err(ASTRAY));
+    }
+    for size in [10, 11, 12, 400] {
+        at(0, size, Ok([36, 0, 1, 15, 3]));
+    }
+    for size in [0, 10, 18, 19] {
+        at(1, size, Err(ASTRAY));
+    }
+    at(1, 20, Ok([2, 0, 2, 33, 19]));
+    at(17, 179, Err(ASTRAY));
+    at(17, 180, Ok([14, 1, 13, 240, 1]));
+    for size in [0, 19, 95, 180, 181, 187, 188, 189] {
+        at(18, size, Err(ASTRAY));
+    }
+    for size in [190, 191, 192, 193, 200, 400] {
+        at(18, size, Ok([15, 1, 13, 242, 1]));
+    }
+}
+
+/// A count that no table holds, and rows whose place does not fit 32 bits; some would come back to a row that is there.
+fn rows_far_out(book: &mut DeskCases) {
+    for number in [
+        19, 20, 65_536, 65_537, 131_072, 429_496_729, 429_496_730, 858_993_459, 858_993_460, 1_288_490_189, 2_147_483_647, 2_147_483_648,
+        2_576_980_378, 3_435_973_837, 4_294_967_293, 4_294_967_294,
+    ] {
+        book.hears(&format!("row {number} of more rows than the table has"), desk(1, TOP), (1, number), Err(ASTRAY));
+    }
+    book.hears("row 18 of more rows than the table has", desk(1, TOP), (1, 18), Ok([15, 1, 13, 242, 1]));
+    let longer = (full(), filled(400));
+    // The bytes past the rows are numbers too, and say a start of 33,887.
+    book.read("a row of old bytes", desk(1, 40), (1, 19), longer, Err(ASTRAY));
+}
+
+/// Feeds cut after the load, or lengthened: a row needs the feed up to its start and length.
+fn feeds_cut(book: &mut DeskCases) {
+    let mut at = |number: u32, size: usize, want| {
+        let feed = [full(), vec![b' '; 200_000]].concat()[..size].to_vec();
+        book.read(&format!("row {number}, feed of {size} bytes"), FULL, (1, number), (feed, filled(190)), want);
+    };
+    for size in [0, 1, 15, 16, 17] {
+        at(0, size, Err(ASTRAY));
+    }
+    for size in [18, 19, 243, 244, 245, 65_534, 65_535, 65_536, 65_537, 70_000, 131_072, 200_000] {
+        at(0, size, Ok([36, 0, 1, 15, 3]));
+    }
+    for size in [0, 3, 74, 75] {
+        at(3, size, Err(ASTRAY));
+    }
+    // META_START has no value: its row stands when the feed ends just past the word.
+    for size in [76, 77, 244, 65_536] {
+        at(3, size, Ok([37, 1, 4, 76, 0]));
+    }
+    at(11, 210, Err(ASTRAY));
+    at(11, 211, Ok([44, 1, 12, 211, 0]));
+    at(12, 230, Err(ASTRAY));
+    at(12, 231, Ok([9, 1, 13, 212, 19]));
+    for size in [0, 1, 241, 242] {
+        at(18, size, Err(ASTRAY));
+    }
+    for size in [243, 244, 65_536, 65_779, 131_072] {
+        at(18, size, Ok([15, 1, 13, 242, 1]));
+    }
+}
+
+/// Tables that no load has filled: a row is what the numbers say, and its span is looked for in the feed that is lent.
+fn strange_tables(book: &mut DeskCases) {
+    let mut at = |numbers: [u16; 5], size: usize, want: Result<(), u32>| {
+        let lent = (vec![b'x'; size], over(&[numbers], 10));
+        book.read(&format!("numbers {numbers:?}, feed of {size} bytes"), desk(7, 1), (7, 0), lent, want.map(|()| numbers));
+    };
+    at([0, 0, 0, 0, 0], 0, Ok(()));
+    at([0, 0, 0, 0, 1], 0, Err(ASTRAY));
+    at([0, 0, 0, 1, 0], 0, Err(ASTRAY));
+    at([0, 0, 0, 1, 0], 1, Ok(()));
+    at([46, 1, 2, 0, 1], 1, Ok(()));
+    at([65_535, 65_535, 65_535, 0, 0], 0, Ok(()));
+    at([1, 0, 1, 65_535, 0], 65_534, Err(ASTRAY));
+    at([1, 0, 1, 65_535, 0], 65_535, Ok(()));
+    at([1, 0, 1, 65_535, 1], 65_535, Err(ASTRAY));
+    at([1, 0, 1, 65_535, 1], 65_536, Ok(()));
+    at([1, 0, 1, 1, 65_535], 65_535, Err(ASTRAY));
+    at([1, 0, 1, 1, 65_535], 65_536, Ok(()));
+    // 65,535 and 65,535 make 65,534 in 16 bits.
+    for size in [0, 65_534, 65_535, 65_536, 131_069] {
+        at([45, 1, 2, 65_535, 65_535], size, Err(ASTRAY));
+    }
+    for size in [131_070, 131_071, 200_000] {
+        at([45, 1, 2, 65_535, 65_535], size, Ok(()));
+    }
+    // 32,768 and 32,768 make 0 in 16 bits.
+    at([45, 1, 2, 32_768, 32_768], 65_535, Err(ASTRAY));
+    at([45, 1, 2, 32_768, 32_768], 65_536, Ok(()));
+    at([0x0102, 0x0304, 0x0506, 0x0708, 0x090A], 4_113, Err(ASTRAY));
+    at([0x0102, 0x0304, 0x0506, 0x0708, 0x090A], 4_114, Ok(()));
+    let bytes = (vec![b'x'; 4_114], vec![2, 1, 4, 3, 6, 5, 8, 7, 10, 9, 11]);
+    book.read("a row byte by byte", desk(7, 1), (7, 0), bytes, Ok([258, 772, 1_286, 1_800, 2_314]));
+}
+
+/// GONE comes before NO_ROW, and both before ASTRAY.
+fn order_of_reading(book: &mut DeskCases) {
+    let nothing = || (Vec::new(), Vec::new());
+    let mut at = |name: &str, at: Desk, ticket, lent, want| book.read(&format!("order of reading: {name}"), at, ticket, lent, want);
+    at("gone, no row and astray", FULL, (2, 19), nothing(), Err(GONE));
+    at("gone and no row", FULL, (2, 19), (full(), filled(190)), Err(GONE));
+    at("gone and astray", FULL, (2, 0), nothing(), Err(GONE));
+    at("no row and astray", FULL, (1, 19), nothing(), Err(NO_ROW));
+    at("astray alone", FULL, (1, 0), nothing(), Err(ASTRAY));
+    at("astray by the feed", FULL, (1, 0), (Vec::new(), filled(190)), Err(ASTRAY));
+    at("astray by the table", FULL, (1, 0), (full(), Vec::new()), Err(ASTRAY));
+    at("gone on a fresh desk", FRESH, (1, 0), nothing(), Err(GONE));
+    at("no row on a fresh desk", FRESH, (0, 0), nothing(), Err(NO_ROW));
+    at("gone at the top", desk(TOP, 0), (0, TOP), nothing(), Err(GONE));
+    at("no row at the top", desk(TOP, 0), (TOP, TOP), nothing(), Err(NO_ROW));
+}

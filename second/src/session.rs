@@ -1,0 +1,292 @@
+//! Makes sessions on one desk: loads one after the other, and after each load tickets, with feed and table at times not as it left them.
+//! Every answer is foretold without the desk's own code: a load's table is written byte after byte, and what a ticket hears comes from
+//! the judge's rows and the lengths of feed and table alone.
+
+use crate::desk::{Desk, Heard, Load, Placed, Reading, Ticket, ASTRAY, FINE, FRESH, GONE, NO_ROOM, NO_ROW, SPENT};
+use crate::dice::Dice;
+use crate::judge::{Answer, Feed, Row, FEED_LIMIT};
+use std::rc::Rc;
+
+/// A call on the desk, and what must be answered; of a ticket on bytes that no load has written nothing is foretold.
+pub enum Step {
+    Load(Load, Placed),
+    Read(Reading, Vec<Option<Heard>>),
+}
+
+const TOP: u32 = u32::MAX;
+
+/// A session with these feeds; most loads are of the first one.
+pub fn session(feeds: &[Rc<[u8]>], dice: &mut Dice) -> Vec<Step> {
+    let desk = any_desk(dice);
+    let size = dice.below(300);
+    let table = any_bytes(dice, size);
+    // What a desk holds that comes from elsewhere is not known.
+    let rows = (desk.count == 0).then(Vec::new);
+    let mut session = Session { dice, feeds, desk, feed: feeds[0].clone(), table, rows, kept: Vec::new(), steps: Vec::new() };
+    if session.dice.percent(if desk == FRESH { 20 } else { 60 }) {
+        session.read();
+    }
+    for _ in 0..session.dice.pick(&[1, 2, 2, 3, 3, 4, 6]) {
+        session.load();
+        (0..session.dice.pick(&[1, 1, 2])).for_each(|_| session.read());
+    }
+    session.steps
+}
+
+/// Most desks are fresh; some are at the top or close to it.
+fn any_desk(dice: &mut Dice) -> Desk {
+    let count = dice.pick(&[0, 0, 1, 7, 20, 65_536, TOP]);
+    match dice.below(20) {
+        0..=13 => FRESH,
+        14 | 15 => Desk { load: TOP - dice.below(4) as u32, count },
+        16 => Desk { load: dice.roll() as u32, count },
+        _ => Desk { load: dice.pick(&[0, 1, 255, 65_534, 65_535, 0x7FFF_FFFF, 0x8000_0000]), count },
+    }
+}
+
+fn any_bytes(dice: &mut Dice, size: usize) -> Vec<u8> {
+    (0..size).map(|_| dice.byte()).collect()
+}
+
+/// A session as it goes on.
+struct Session<'s> {
+    dice: &'s mut Dice,
+    feeds: &'s [Rc<[u8]>],
+    desk: Desk,
+    /// The feed and the table of the last load that was not refused as spent.
+    feed: Rc<[u8]>,
+    table: Vec<u8>,
+    /// The rows that the desk holds, if that is known.
+    rows: Option<Vec<Row>>,
+    /// Tickets of this load and of those before.
+    kept: Vec<Ticket>,
+    steps: Vec<Step>,
+}
+
+impl Session<'_> {
+    fn load(&mut self) {
+        let feed = if self.dice.percent(60) { self.feeds[0].clone() } else { self.feeds[self.dice.below(self.feeds.len())].clone() };
+        let lines = Feed::new(&feed);
+        // A feed that is too long counts as one without messages, so that any number is asked for.
+        let message = self.message(lines.headings().unwrap_or(0) as u64);
+        let judged = lines.judge(message);
+        let rows = if let Answer::Accepted(rows) = &judged { rows.len() } else { self.dice.below(40) };
+        let load = Load { desk: self.desk, feed: feed.clone(), message, table: self.table_for(10 * rows) };
+        let placed = foretold_load(&load, &judged);
+        if placed.reason != SPENT {
+            self.go_on(feed, &placed, judged);
+        }
+        self.steps.push(Step::Load(load, placed));
+    }
+
+    /// The desk and the table that came back are handed on, and some tickets are kept.
+    fn go_on(&mut self, feed: Rc<[u8]>, placed: &Placed, judged: Answer) {
+        self.feed = feed;
+        self.desk = placed.desk;
+        self.table.clone_from(&placed.table);
+        self.rows = Some(match judged {
+            Answer::Accepted(rows) if placed.reason == FINE => rows,
+            _ => Vec::new(),
+        });
+        for _ in 0..self.dice.below(3) {
+            self.kept.push(Ticket { load: self.desk.load, row: self.dice.below(self.desk.count as usize) as u32 });
+        }
+    }
+
+    /// Mostly a message that there is.
+    fn message(&mut self, count: u64) -> u64 {
+        if count > 0 && self.dice.percent(92) {
+            return 1 + self.dice.below(count as usize) as u64;
+        }
+        self.dice.pick(&[0, count + 1, count + 1, count + 2, 65_537, (1 << 32) + 1, 1 << 63, u64::MAX])
+    }
+
+    /// A table of about as many bytes as are needed: the one at hand, cut or lengthened, or any other.
+    fn table_for(&mut self, needed: usize) -> Vec<u8> {
+        let size = match self.dice.below(12) {
+            0 => self.dice.below(needed + 1),
+            1 => self.dice.pick(&[0, 1, 9, needed / 5, needed / 2]),
+            2..=5 => (needed + self.dice.below(5)).saturating_sub(2),
+            6..=8 => needed + self.dice.below(30),
+            _ => needed + self.dice.below(400),
+        };
+        let mut table = if self.dice.percent(50) { self.table.clone() } else { Vec::new() };
+        table.truncate(size);
+        let missing = size - table.len();
+        table.extend(any_bytes(self.dice, missing));
+        table
+    }
+
+    fn read(&mut self) {
+        // A desk without rows has little to say.
+        let most = if self.desk.count == 0 { 3 } else { 8 };
+        let tickets: Vec<Ticket> = (0..self.dice.between(1, most)).map(|_| self.ticket()).collect();
+        let aim = self.dice.pick(&tickets).row as usize;
+        let feed = self.lent_feed(aim);
+        let (table, changed) = self.lent_table(aim, feed.len());
+        let known = tickets.iter().map(|ticket| self.foretold(*ticket, feed.len(), table.len(), changed)).collect();
+        self.steps.push(Step::Read(Reading { desk: self.desk, feed, table, tickets }, known));
+    }
+
+    /// A ticket of this load, of one before, of one to come, or of none.
+    fn ticket(&mut self) -> Ticket {
+        let Desk { load, count } = self.desk;
+        let row = self.dice.below(count as usize) as u32;
+        match self.dice.below(20) {
+            0..=3 if !self.kept.is_empty() => self.dice.pick(&self.kept),
+            4 | 5 => Ticket { load, row: self.dice.pick(&[count, count, count.saturating_add(1), count.saturating_add(65_536), TOP]) },
+            6 | 7 => Ticket { load: self.dice.pick(&[load.wrapping_add(1), load.wrapping_add(2), load.wrapping_add(65_536), TOP]), row },
+            8 | 9 => Ticket { load: self.dice.pick(&[load.wrapping_sub(1), load / 2, 0, load & 0xFFFF]), row },
+            10 => Ticket { load: row, row: load },
+            11 => Ticket { load, row: self.far_row() },
+            _ => Ticket { load, row },
+        }
+    }
+
+    /// A row far out; the places of some would come back to the front of the table in 16 or 32 bits.
+    fn far_row(&mut self) -> u32 {
+        let any = self.dice.roll() as u32;
+        self.dice.pick(&[65_536, 429_496_730, 858_993_460, 1_288_490_189, 0x8000_0000, any])
+    }
+
+    /// Where the value of a row ends, if that is known.
+    fn value_end(&self, row: usize) -> Option<usize> {
+        self.rows.as_ref()?.get(row).map(end)
+    }
+
+    /// The feed of the load, at times cut, lengthened or another; cuts aim at the end of a row's value.
+    fn lent_feed(&mut self, aim: usize) -> Rc<[u8]> {
+        let feed = self.feed.clone();
+        match (self.dice.below(20), self.value_end(aim)) {
+            (0, _) => Rc::from(&b""[..]),
+            (1, _) => feed[..self.dice.between(0, feed.len())].into(),
+            (2..=5, Some(end)) => feed[..(end + self.dice.below(3)).saturating_sub(1).min(feed.len())].into(),
+            (6 | 7, _) => {
+                let over = if self.dice.percent(10) { FEED_LIMIT.saturating_sub(feed.len()) } else { 0 };
+                let more = over + self.dice.between(1, 200);
+                [&feed[..], &vec![b' '; more]].concat().into()
+            }
+            (8, _) => self.feeds[self.dice.below(self.feeds.len())].clone(),
+            _ => feed,
+        }
+    }
+
+    /// The table of the load, at times cut or lengthened, and whether numbers in it were changed; cuts aim at the end of a row.
+    fn lent_table(&mut self, aim: usize, feed: usize) -> (Vec<u8>, bool) {
+        let mut table = self.table.clone();
+        match self.dice.below(20) {
+            0 => table.clear(),
+            1 => table.truncate(self.dice.between(0, self.table.len())),
+            2..=5 => table.truncate(10 * aim + self.dice.between(8, 11)),
+            6 | 7 => {
+                let more = self.dice.between(1, 200);
+                table.extend(any_bytes(self.dice, more));
+            }
+            8 | 9 => {
+                self.change_numbers(&mut table, aim, feed);
+                return (table, true);
+            }
+            _ => {}
+        }
+        (table, false)
+    }
+
+    /// Gives a row numbers that no load would have given it.
+    fn change_numbers(&mut self, table: &mut [u8], aim: usize, feed: usize) {
+        for pair in table.chunks_exact_mut(2).skip(5 * aim).take(5) {
+            if self.dice.percent(50) {
+                let any = self.dice.roll() as u16;
+                let number = self.dice.pick(&[0, 1, 32_768, 65_535, feed as u16, (feed / 2) as u16, any]);
+                pair.copy_from_slice(&number.to_le_bytes());
+            }
+        }
+    }
+
+    /// What a ticket must hear, if that is known.
+    fn foretold(&self, ticket: Ticket, feed: usize, table: usize, changed: bool) -> Option<Heard> {
+        if ticket.load != self.desk.load {
+            return Some(Err(GONE));
+        }
+        if ticket.row >= self.desk.count {
+            return Some(Err(NO_ROW));
+        }
+        let row = self.rows.as_ref().filter(|_| !changed)?[ticket.row as usize];
+        let whole = table >= 10 * (ticket.row as usize + 1) && feed >= end(&row);
+        Some(if whole { Ok(row) } else { Err(ASTRAY) })
+    }
+}
+
+fn end(row: &Row) -> usize {
+    usize::from(row.start) + usize::from(row.length)
+}
+
+/// What a load must come to, by what the judge says of its message.
+fn foretold_load(load: &Load, judged: &Answer) -> Placed {
+    let mut placed = Placed { desk: load.desk, reason: SPENT, line: 0, table: load.table.clone() };
+    if load.desk.load == TOP {
+        return placed;
+    }
+    placed.desk = Desk { load: load.desk.load + 1, count: 0 };
+    match judged {
+        Answer::Refused { reason, line } => (placed.reason, placed.line) = (reason.number(), *line as u32),
+        Answer::Accepted(rows) if load.table.len() < 10 * rows.len() => placed.reason = NO_ROOM,
+        Answer::Accepted(rows) => {
+            placed.reason = FINE;
+            placed.desk.count = rows.len() as u32;
+            write_rows(&mut placed.table, rows);
+        }
+    }
+    placed
+}
+
+fn write_rows(table: &mut [u8], rows: &[Row]) {
+    for (at, row) in rows.iter().enumerate() {
+        for (field, number) in [row.code, row.group, row.line, row.start, row.length].into_iter().enumerate() {
+            table[10 * at + 2 * field] = number as u8;
+            table[10 * at + 2 * field + 1] = (number >> 8) as u8;
+        }
+    }
+}
+
+#[cfg(test)]
+mod tests {
+    use super::*;
+    use crate::desk::{place, read};
+    use crate::make::{draft, write};
+
+    fn any_session(turn: u64) -> Vec<Step> {
+        let mut dice = Dice::new(17, turn);
+        let feeds: Vec<Rc<[u8]>> = (0..2).map(|_| write(&draft(&mut dice), &mut dice).feed.into()).collect();
+        session(&feeds, &mut dice)
+    }
+
+    #[test]
+    fn the_desk_answers_as_foretold() {
+        for turn in 0..300 {
+            for step in any_session(turn) {
+                match step {
+                    Step::Load(load, placed) => assert_eq!(place(&load), placed, "turn {turn}"),
+                    Step::Read(reading, known) => {
+                        let heard = read(&reading);
+                        known.iter().zip(heard).for_each(|(known, heard)| assert!(known.is_none_or(|known| known == heard), "turn {turn}"));
+                    }
+                }
+            }
+        }
+    }
+
+    #[test]
+    fn a_session_hands_on_its_desk() {
+        for turn in 0..100 {
+            let mut desk = None;
+            for step in any_session(turn) {
+                let (before, after) = match &step {
+                    Step::Load(load, placed) => (load.desk, placed.desk),
+                    Step::Read(reading, _) => (reading.desk, reading.desk),
+                };
+                assert_eq!(*desk.get_or_insert(before), before, "turn {turn}");
+                desk = Some(after);
+            }
+        }
+    }
+}
