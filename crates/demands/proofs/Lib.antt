@@ -3,3 +3,4 @@ pub mod Loads
 pub mod Healing
 pub mod Rows
 pub mod OwnRow
+pub mod OneAnswer

@@ -16,7 +16,7 @@ use Rattle.judge.specs.Message.{judgeOf, judgeTexts, texts, upTo, rowsOf}
 use Rattle.judge.specs.declared.Judged.{Judged}
 use Rattle.judge.specs.declared.Judged.the-variants.{Accepted, Refused}
 use Rattle.judge.specs.declared.Row.{Row}
-use Rattle.desk.specs.Table.{tableBytes, rowAt}
+use Rattle.desk.specs.Table.{rowWidth, tableBytes, rowAt}
 use Rattle.desk.specs.declared.Desk.{Desk}
 use Rattle.desk.specs.declared.Ticket.{Ticket}
 use Rattle.desk.specs.declared.Loaded.{Loaded}
@@ -34,7 +34,7 @@ nextDesk d n = record { load = record { 0 = d .load .0 + 1 }; count = n }
 -- "NO_ROOM: message right, table under 5 x count entries": the judgement of a message, with a table of so many bytes
 unfoldable pub roomFor : ℕ → Judged → Judged
 roomFor bytes (Refused r l) = Refused r l
-roomFor bytes (Accepted n) = elim (ltb bytes (10 * n)) [ true ↦ Refused Reasons.NoRoom 0 | false ↦ Accepted n ]
+roomFor bytes (Accepted n) = elim (ltb bytes (rowWidth * n)) [ true ↦ Refused Reasons.NoRoom 0 | false ↦ Accepted n ]
 
 -- "after any other load the load number is one higher, and after a refusal the count is 0"
 unfoldable pub deskAfter : Desk → Judged → Desk
@@ -52,7 +52,7 @@ loadOf d f k bytes =
 -- "Acceptance fills the first 5 x count entries of the table and keeps the others as they came."
 unfoldable pub tableAfter : Judged → List Row → List ℕ → List ℕ
 tableAfter (Refused r l) rs t = t
-tableAfter (Accepted n) rs t = tableBytes rs ++ drop (10 * n) t
+tableAfter (Accepted n) rs t = tableBytes rs ++ drop (rowWidth * n) t
 
 -- the table after a load, whatever it answered
 abbrev pub loadTable : Desk → List ℕ → ℕ → List ℕ → List ℕ
@@ -63,7 +63,7 @@ unfoldable pub spanOf : Row → List ℕ → Heard
 spanOf r f = elim (ltb (length f) (r .start + r .length)) [ true ↦ Silent Reasons.Astray | false ↦ Spoken r ]
 
 unfoldable pub rowHeard : ℕ → List ℕ → List ℕ → Heard
-rowHeard n f t = elim (ltb (length t) (10 * (n + 1))) [ true ↦ Silent Reasons.Astray | false ↦ spanOf (rowAt t n) f ]
+rowHeard n f t = elim (ltb (length t) (rowWidth * (n + 1))) [ true ↦ Silent Reasons.Astray | false ↦ spanOf (rowAt t n) f ]
 
 -- "Reading a ticket checks 14, 15, 16, changes nothing, and gives the row and its part of the feed."
 unfoldable pub readOf : Desk → Ticket → List ℕ → List ℕ → Heard
@@ -87,10 +87,10 @@ pub record StepFits (x : Step) (n at : ℕ) (t : List ℕ) : Type 0 where
   pub order : (i : ℕ) → i < x .count → getD (x .spans) i noSpan .from ≤ getD (x .spans) i noSpan .to
   pub end : (i : ℕ) → i < x .count → at + getD (x .spans) i noSpan .to ≤ 65535
   pub code : x .code ≤ 45
-  pub room : 10 * (n + x .count) ≤ length t
+  pub room : rowWidth * (n + x .count) ≤ length t
 
 -- the message from a place on is accepted with so many rows, and the table has room for them
 pub record Fillable (f : List ℕ) (from : ℕ) (form : Form) (total : ℕ) (t : List ℕ) : Type 0 where
   pub limit : length f ≤ 65535
   pub right : judgeTexts (freshState form) 1 0 (texts (upTo true (linesAt from (drop from f)))) ≡ Accepted total
-  pub room : 10 * total ≤ length t
+  pub room : rowWidth * total ≤ length t

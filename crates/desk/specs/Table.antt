@@ -6,10 +6,7 @@ use lib.ListN.{getD}
 use lib.Seq.{sets}
 use Rattle.judge.specs.declared.Row.{Row}
 
--- how many bytes an entry takes, and how many entries a row has
-abbrev pub entryWidth : ℕ
-entryWidth = 2
-
+-- how many bytes a row takes: five entries of two
 abbrev pub rowWidth : ℕ
 rowWidth = 10
 
@@ -43,7 +40,7 @@ tableBytes (r ∷ rs) = rowBytes r ++ tableBytes rs
 
 -- a row written at a row number, and some rows from a row number on
 unfoldable pub putRow : ℕ → Row → List ℕ → List ℕ
-putRow n r t = sets t (10 * n) (rowBytes r)
+putRow n r t = sets t (rowWidth * n) (rowBytes r)
 
 unfoldable pub putRows : ℕ → List Row → List ℕ → List ℕ
 putRows n [] t = t

@@ -48,6 +48,9 @@ pub enum Heard {
     Silent(Reason),
 }
 
+// A row's five entries, two bytes each.
+const ROW_BYTES: usize = 10;
+
 // One entry put in its place: one of the two leaves that know how wide an entry is.
 fn put_entry(table: &mut [u8], i: usize, n: u32)
     requires { ⌜ 2 * i + 1 < length (now table) ⌝ }
@@ -228,7 +231,7 @@ impl Desk {
         match judge::judge(feed, message) {
             Judged::Refused(reason, line) => self.refused(reason, line),
             Judged::Accepted(rows) => {
-                if table.len() < 10 * (rows as usize) {
+                if table.len() < ROW_BYTES * (rows as usize) {
                     return self.refused(Reason::NoRoom, 0);
                 }
                 fill_message(feed, message, rows, table);
@@ -274,7 +277,7 @@ fn row_heard(n: usize, feed: &[u8], table: &[u8]) -> Heard
     requires { ⌜ n < 4294967296 ⌝ }
     ensures { λ r. ⌜ r ≡ rowHeard n (now (feed .entry)) (now (table .entry)) ⌝ }
 {
-    if table.len() < 10 * (n + 1) {
+    if table.len() < ROW_BYTES * (n + 1) {
         return Heard::Silent(Reason::Astray);
     }
     let row = get_row(table, n);

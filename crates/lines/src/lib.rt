@@ -235,7 +235,7 @@ pub fn comment_of(text: &[u8]) -> Comment
     Comment::Value(value)
 }
 
-// The two sides of the `=` at `n`.
+// The two sides of the `=` at `n`, which the caller has found in the text.
 pub fn sides_of(text: &[u8], n: usize) -> Sides
     requires { ⌜ n < length (now text) ⌝ }
     ensures { λ r. ⌜ r ≡ sidesOf n (now (text .entry)) ⌝ }

@@ -1,0 +1,27 @@
+-- Each entry point's promise leaves one answer: whatever two runs on the same input hand back, and leave in the table, is the same.
+-- Assumes nothing.
+use Prim.Native.Nat.{ℕ}
+use mathlib.Core.Path.{_≡_}
+use mathlib.Core.List.{List}
+use lib.ListN.{length}
+use Rattle.judge.specs.Message.{judgeOf, countOf}
+use Rattle.judge.specs.declared.Judged.{Judged}
+use Rattle.judge.specs.declared.Counted.{Counted}
+use Rattle.desk.specs.Loads.{loadOf, loadTable, readOf, partHeard}
+use Rattle.desk.specs.declared.Desk.{Desk}
+use Rattle.desk.specs.declared.Ticket.{Ticket}
+use Rattle.desk.specs.declared.Loaded.{Loaded}
+use Rattle.desk.specs.declared.Heard.{Heard}
+
+-- two answers that meet a promise are the same
+abbrev pub One : {A : Type 0} → (A → Type 0) → Type 0
+One {A} promise = (a b : A) → promise a → promise b → a ≡ b
+
+abbrev pub OneAnswer : Type 0
+OneAnswer =
+    ((f : List ℕ) → One {A = Counted} (λ r. r ≡ countOf f))
+    × ((f : List ℕ) (k : ℕ) → One {A = Judged} (λ r. r ≡ judgeOf f k))
+    × ((d : Desk) (f : List ℕ) (k : ℕ) (t : List ℕ) → One {A = Loaded} (λ r. r ≡ loadOf d f k (length t)))
+    × ((d : Desk) (f : List ℕ) (k : ℕ) (t : List ℕ) → One {A = List ℕ} (λ u. u ≡ loadTable d f k t))
+    × ((d : Desk) (k : Ticket) (f t : List ℕ) → One {A = Heard} (λ r. r ≡ readOf d k f t))
+    × ((d : Desk) (k : Ticket) (f t : List ℕ) → One {A = List ℕ} (λ v. v ≡ partHeard (readOf d k f t) f))
