@@ -315,21 +315,23 @@ static bool read_line(char *line, bool *right) {
     return byte != EOF || length > 0;
 }
 
-static void prompt(void) {
+/* For a person at a terminal only: a mark that a command can be typed, and a line's end where the input ended after the mark. */
+static void print_for_typist(const char *text) {
     if (!isatty(STDIN_FILENO)) return;
-    fputs("> ", stdout);
+    fputs(text, stdout);
     fflush(stdout);
 }
 
 static void hold_session(void) {
     static char line[COMMAND_ROOM];
     bool right;
-    prompt();
+    print_for_typist("> ");
     while (!leaving && !voice_lost() && read_line(line, &right)) {
         if (right) obey(line);
         else say("the command line is too long");
-        if (!leaving) prompt();
+        if (!leaving) print_for_typist("> ");
     }
+    if (!leaving) print_for_typist("\n");
     if (ferror(stdin)) say("the commands cannot be read");
 }
 

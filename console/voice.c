@@ -28,11 +28,13 @@ static void print_line(const char *text) {
     fflush(stdout);
 }
 
-/* Whether the speech command took this line and ended well. */
+/* Whether the speech command was started with this line and ended well. The line is written past the stream's buffer: what is in the buffer of a
+ * command that ended well without reading would make pclose fail.
+ */
 static bool pipe_line(const char *text) {
     FILE *mouth = popen(speech, "w");
     if (mouth == NULL) return false;
-    fprintf(mouth, "%s\n", text);
+    dprintf(fileno(mouth), "%s\n", text);
     return pclose(mouth) == 0;
 }
 
