@@ -1,6 +1,6 @@
 -- Demand 3: a feed's lines from a place on are the lines of what stands there, moved; headings, judgement and rows go by the texts.
 -- Assumes nothing.
-use Prim.Native.Nat.{ℕ, _+_, _-_, _≤_}
+use Prim.Native.Nat.{ℕ, _+_, _-_, _*_, _≤_}
 use mathlib.Core.Path.{_≡_, refl, sym, ap, ap₂, _∙_}
 use mathlib.Core.Bool.{Bool, true, false, not, _&&_}
 use mathlib.Core.List.{List, [], _∷_, _++_, map}
@@ -16,9 +16,10 @@ use Rattle.step.specs.declared.State.{State}
 use Rattle.judge.specs.Message.{isHeading, formOf, fromHeading, headings, upTo, messageOf, texts, judgeTexts, judgeLines, feedLimit, judgeOf, groupOf, rowsAt, rowsFrom, rowsLines, rowsOf}
 use Rattle.judge.specs.declared.Judged.{Judged}
 use Rattle.judge.specs.declared.Judged.the-variants.{Accepted, Refused}
-use Rattle.desk.specs.Loads.{topLoad, roomFor, deskAfter, loadOf}
+use Rattle.desk.specs.Table.{tableBytes}
+use Rattle.desk.specs.Loads.{topLoad, roomFor, deskAfter, loadOf, loadTable}
 use Rattle.desk.specs.declared.Desk.{Desk}
-use Rattle.demands.proofs.Loads.{answer-free, desk-free}
+use Rattle.demands.proofs.Loads.{answer-free, desk-free, load-judges}
 use Rattle.judge.specs.declared.Row.{Row}
 use Rattle.demands.specs.Healing.{movedRow, Healed, Healing, Alike, HealingLoads}
 
@@ -140,6 +141,11 @@ unfolding deskAfter
 same-count d₁ d₂ (Refused r l) = refl
 same-count d₁ d₂ (Accepted n) = refl
 
+-- a table after an acceptance, by the rows that the message has
+table-by : (f : List ℕ) (k n : ℕ) (rs : List Row) → rowsOf f k ≡ rs → (d : Desk) (t : List ℕ) → (d .load .0 ≡ topLoad → ⊥)
+    → loadOf d f k (length t) .answer ≡ Accepted n → loadTable d f k t ≡ tableBytes rs ++ drop (10 * n) t
+table-by f k n rs r d t h e = load-judges d f k t h .1 n e .2 ∙ ap (λ (x : List Row). tableBytes x ++ drop (10 * n) t) r
+
 pub healing-loads : HealingLoads
 healing-loads f₁ f₂ q₁ q₂ l₁ l₂ s₁ s₂ e =
     let h₁ = healing f₁ q₁ l₁ s₁ in
@@ -151,6 +157,9 @@ healing-loads f₁ f₂ q₁ q₂ l₁ l₂ s₁ s₂ e =
     → loadOf d₁ f₁ (h₁ .m + j) (length t₁) .answer ≡ loadOf d₂ f₂ (h₂ .m + j) (length t₂) .answer =
     λ j k d₁ d₂ t₁ t₂ n₁ n₂ g. answer-free d₁ f₁ _ _ n₁ ∙ ap₂ roomFor g (alike j k) ∙ sym (answer-free d₂ f₂ _ _ n₂)
     in
+    let rows : (j : ℕ) → 1 ≤ j → rowsOf f₂ (h₂ .m + j) ≡ map (movedRow q₂) (rowsOf (drop q₁ f₁) j) =
+    λ j k. h₂ .rows j k ∙ ap (λ (s : List ℕ). map (movedRow q₂) (rowsOf s j)) (sym e)
+    in
     record {
       m₁ = h₁ .m;
       m₂ = h₂ .m;
@@ -160,6 +169,8 @@ healing-loads f₁ f₂ q₁ q₂ l₁ l₂ s₁ s₂ e =
           ap (λ (b : Desk). b .count) (desk-free d₁ f₁ _ _ n₁ _ (same j k d₁ d₂ t₁ t₂ n₁ n₂ g))
           ∙ same-count d₁ d₂ (loadOf d₂ f₂ (h₂ .m + j) (length t₂) .answer)
           ∙ sym (ap (λ (b : Desk). b .count) (desk-free d₂ f₂ _ _ n₂ _ refl));
+      tables₁ = λ j n k d t u a. table-by f₁ _ n _ (h₁ .rows j k) d t u a;
+      tables₂ = λ j n k d t u a. table-by f₂ _ n _ (rows j k) d t u a;
       rows₁ = h₁ .rows;
-      rows₂ = λ j k. h₂ .rows j k ∙ ap (λ (s : List ℕ). map (movedRow q₂) (rowsOf s j)) (sym e);
+      rows₂ = rows;
     }

@@ -1,6 +1,6 @@
 -- Demand 3: what came before a heading never bends the messages from there on.
 -- Assumes nothing.
-use Prim.Native.Nat.{ℕ, _+_, _≤_}
+use Prim.Native.Nat.{ℕ, _+_, _*_, _≤_}
 use mathlib.Core.Path.{_≡_}
 use mathlib.Core.List.{List, map, _++_}
 use lib.ListN.{length, drop}
@@ -10,7 +10,8 @@ use Rattle.words.specs.Words.{bytes}
 use Rattle.step.specs.declared.Reason.the-variants as Reasons
 use Rattle.judge.specs.declared.Judged.the-variants.{Accepted, Refused}
 use Rattle.judge.specs.declared.Row.{Row}
-use Rattle.desk.specs.Loads.{topLoad, loadOf}
+use Rattle.desk.specs.Table.{tableBytes}
+use Rattle.desk.specs.Loads.{topLoad, loadOf, loadTable}
 use Rattle.desk.specs.declared.Desk.{Desk}
 use Rattle.demands.specs.Marked.{feedInFull}
 
@@ -38,6 +39,11 @@ pub record Alike (f₁ f₂ : List ℕ) (q₁ q₂ : ℕ) : Type 0 where
       → loadOf d₁ f₁ (m₁ + j) (length t₁) .answer ≡ loadOf d₂ f₂ (m₂ + j) (length t₂) .answer
   pub counts : (j : ℕ) → 1 ≤ j → (d₁ d₂ : Desk) (t₁ t₂ : List ℕ) → (d₁ .load .0 ≡ topLoad → ⊥) → (d₂ .load .0 ≡ topLoad → ⊥) → length t₁ ≡ length t₂
       → loadOf d₁ f₁ (m₁ + j) (length t₁) .desk .count ≡ loadOf d₂ f₂ (m₂ + j) (length t₂) .desk .count
+  -- after an acceptance each table holds the same rows, moved, and then its own old bytes
+  pub tables₁ : (j n : ℕ) → 1 ≤ j → (d : Desk) (t : List ℕ) → (d .load .0 ≡ topLoad → ⊥) → loadOf d f₁ (m₁ + j) (length t) .answer ≡ Accepted n
+      → loadTable d f₁ (m₁ + j) t ≡ tableBytes (map (movedRow q₁) (base j)) ++ drop (10 * n) t
+  pub tables₂ : (j n : ℕ) → 1 ≤ j → (d : Desk) (t : List ℕ) → (d .load .0 ≡ topLoad → ⊥) → loadOf d f₂ (m₂ + j) (length t) .answer ≡ Accepted n
+      → loadTable d f₂ (m₂ + j) t ≡ tableBytes (map (movedRow q₂) (base j)) ++ drop (10 * n) t
   pub rows₁ : (j : ℕ) → 1 ≤ j → rowsOf f₁ (m₁ + j) ≡ map (movedRow q₁) (base j)
   pub rows₂ : (j : ℕ) → 1 ≤ j → rowsOf f₂ (m₂ + j) ≡ map (movedRow q₂) (base j)
 
