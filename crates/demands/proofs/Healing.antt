@@ -5,10 +5,10 @@ use mathlib.Core.Path.{_≡_, refl, sym, ap, ap₂, _∙_}
 use mathlib.Core.Bool.{Bool, true, false, not, _&&_}
 use mathlib.Core.List.{List, [], _∷_, _++_, map}
 use native.Mathlib.Omega.{arith}
-use lib.Dec.{eqb, ltb}
+use lib.Dec.{eqb}
 use lib.ListN.{length, take, drop, length-drop}
 use borrow.Author.Tests.{ne-eqb, le-ltb}
-use Rattle.lines.specs.Feed.{Line, lines, linesAt, linesFrom, Starts, movedLine}
+use Rattle.lines.specs.Feed.{Line, lines, linesFrom, Starts, movedLine}
 use Rattle.lines.specs.declared.Span.{Span}
 use Rattle.lines.proofs.Lists.{lines-from, lines-move}
 use Rattle.step.specs.Step.{freshState, stepOf}
@@ -21,7 +21,7 @@ use Rattle.desk.specs.Loads.{topLoad, roomFor, deskAfter, loadOf, loadTable}
 use Rattle.desk.specs.declared.Desk.{Desk}
 use Rattle.demands.proofs.Loads.{answer-free, desk-free, load-judges}
 use Rattle.judge.specs.declared.Row.{Row}
-use Rattle.demands.specs.Healing.{movedRow, Healed, Healing, Alike, HealingLoads}
+use Rattle.demands.specs.Healing.{movedRow, Healing, HealingLoads}
 
 -- ---- headings that stand before are passed
 

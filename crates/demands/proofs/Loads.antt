@@ -1,24 +1,20 @@
 -- Demands 1 and 2, from the definitions of a load and of a ticket's reading.
 -- Assumes nothing.
-use Prim.Native.Nat.{ℕ, _+_, _*_, _≤_, _<_}
+use Prim.Native.Nat.{ℕ, _*_, _≤_, _<_}
 use mathlib.Core.Path.{_≡_, refl, sym, ap, _∙_}
-use mathlib.Core.List.{List, [], _∷_, _++_}
+use mathlib.Core.List.{List, [], _∷_}
 use mathlib.Core.Bool.{Bool, true, false}
 use native.Mathlib.Omega.{arith}
 use lib.Dec.{eqb, ltb}
-use lib.ListN.{length, drop}
+use lib.ListN.{length}
 use borrow.Author.Tests.{eq-eqb, ne-eqb, eqb-true, eqb-false}
-use Rattle.step.specs.declared.Reason.{Reason}
 use Rattle.step.specs.declared.Reason.the-variants as Reasons
-use Rattle.judge.specs.Message.{judgeOf, rowsOf}
+use Rattle.judge.specs.Message.{judgeOf}
 use Rattle.judge.specs.declared.Judged.{Judged}
 use Rattle.judge.specs.declared.Judged.the-variants.{Accepted, Refused}
-use Rattle.judge.specs.declared.Row.{Row}
-use Rattle.desk.specs.Table.{tableBytes}
-use Rattle.desk.specs.Loads.{topLoad, nextDesk, roomFor, deskAfter, loadOf, tableAfter, loadTable, readOf}
+use Rattle.desk.specs.Loads.{topLoad, roomFor, deskAfter, loadOf, tableAfter}
 use Rattle.desk.specs.declared.Desk.{Desk}
 use Rattle.desk.specs.declared.Loaded.{Loaded}
-use Rattle.desk.specs.declared.Heard.the-variants.{Silent}
 use Rattle.desk.proofs.Reading.{read-gone}
 use Rattle.demands.specs.Loads.{ticket, RefusedKeeps, SpentKeeps, Load, after, EarlierGone, LoadJudges}
 

@@ -1,29 +1,27 @@
 -- Own row: what a load put into the table is what its tickets hear.
 -- Assumes nothing.
 use Prim.Native.Nat.{ℕ, _+_, _*_, _≤_, _<_}
-use mathlib.Core.Path.{_≡_, refl, sym, ap, _∙_}
-use mathlib.Core.List.{List, [], _∷_, _++_}
+use mathlib.Core.Path.{_≡_, refl, sym, _∙_}
+use mathlib.Core.List.{List, _++_}
 use mathlib.Core.Bool.{Bool, true, false}
 use native.Mathlib.Omega.{arith}
 use lib.Dec.{ltb}
-use lib.ListN.{length, take, drop, getD, length-append, length-drop}
-use borrow.Author.Tests.{ltb-false, le-ltb}
+use lib.ListN.{length, drop, getD, length-append, length-drop}
+use borrow.Author.Tests.{ltb-false}
 use Rattle.step.specs.declared.Reason.the-variants as Reasons
 use Rattle.judge.specs.Message.{feedLimit, judgeOf, judgeLines, messageOf, rowsOf}
 use Rattle.judge.specs.declared.Judged.{Judged}
 use Rattle.judge.specs.declared.Judged.the-variants.{Accepted, Refused}
-use Rattle.judge.specs.declared.Row.{Row}
 use Rattle.desk.specs.Table.{tableBytes, rowAt}
-use Rattle.desk.specs.Loads.{topLoad, nextDesk, roomFor, loadOf, loadTable, readOf, rowHeard, spanOf, partHeard}
+use Rattle.desk.specs.Loads.{topLoad, nextDesk, roomFor, loadOf, readOf, partHeard}
 use Rattle.desk.specs.declared.Desk.{Desk}
-use Rattle.desk.specs.declared.Heard.{Heard}
-use Rattle.desk.specs.declared.Heard.the-variants.{Spoken, Silent}
+use Rattle.desk.specs.declared.Heard.the-variants.{Spoken}
 use Rattle.desk.proofs.Reading.{read-row, span-in}
 use Rattle.desk.proofs.Fills.{rows-count}
 use Rattle.desk.proofs.Tables.{table-length, row-back}
 use Rattle.demands.specs.Loads.{ticket, noRow, OwnRow}
 use Rattle.demands.proofs.Loads.{answer-free, load-judges}
-use Rattle.demands.proofs.Rows.{Held, Every, at-every, all-held, all-small}
+use Rattle.demands.proofs.Rows.{Held, at-every, all-held, all-small}
 
 -- an accepted message stands in a feed within the limit
 within-limit : (f : List ℕ) (k n : ℕ) → judgeOf f k ≡ Accepted n → length f ≤ feedLimit

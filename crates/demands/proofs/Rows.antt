@@ -1,7 +1,7 @@
 -- Every row of a message in a feed within the limit has five small numbers, and its span lies in the feed.
 -- Assumes nothing.
-use Prim.Native.Nat.{ℕ, zero, suc, _+_, _-_, _*_, _≤_, _<_}
-use mathlib.Core.Path.{_≡_, refl, sym, ap, _∙_}
+use Prim.Native.Nat.{ℕ, zero, suc, _+_, _-_, _≤_, _<_}
+use mathlib.Core.Path.{_≡_}
 use mathlib.Core.Bool.{Bool, true, false, not, _&&_}
 use mathlib.Core.List.{List, [], _∷_, _++_}
 use native.Mathlib.Nat.{not-suc-le-zero}
@@ -10,12 +10,12 @@ use lib.Dec.{eqb}
 use lib.ListN.{length, take, drop, getD, length-take, length-drop}
 use lib.Seq.{take-all}
 use Rattle.words.proofs.Laws.{run-le}
-use Rattle.lines.specs.Feed.{Line, isEnd, lines, linesAt, textLen, endLen, lineLen}
+use Rattle.lines.specs.Feed.{Line, isEnd, lines, linesAt, textLen, lineLen}
 use Rattle.lines.specs.Text.{noSpan}
 use Rattle.lines.specs.declared.Span.{Span}
 use Rattle.lines.proofs.Laws.{end-le}
 use Rattle.lines.proofs.Lists.{lines-next, lines-end, len-some}
-use Rattle.step.specs.Step.{Inside, SevenInside, freshState, stepOf}
+use Rattle.step.specs.Step.{Inside, freshState, stepOf}
 use Rattle.step.specs.declared.State.{State}
 use Rattle.step.specs.declared.Step.{Step}
 use Rattle.step.proofs.Sound.{Good, offence, none, one, seven, step-good}

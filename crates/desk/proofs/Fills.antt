@@ -8,7 +8,7 @@ use native.Mathlib.Numerals.{add-one}
 use native.Mathlib.Omega.{arith}
 use lib.Dec.{eqb, ltb}
 use lib.ListN.{length, take, drop, set, getD, length-append, length-take, length-drop}
-use borrow.Author.Tests.{eq-eqb, ne-eqb, lt-ltb, le-ltb, ltb-true, ltb-false}
+use borrow.Author.Tests.{eq-eqb, ne-eqb, le-ltb, ltb-true, ltb-false}
 use lib.Seq.{sets, sets-eq, length-take-le, drop-cons, getD-take}
 use Rattle.lines.specs.Feed.{Line, endsOf}
 use Rattle.lines.specs.Text.{noSpan}
@@ -32,9 +32,8 @@ use Rattle.judge.specs.declared.Moved.{Moved}
 use Rattle.judge.specs.declared.Row.{Row}
 use Rattle.judge.proofs.Laws.{line-left, text-left, up-more, left, AtLine, judge-long, judge-missing, judge-found}
 use Rattle.desk.specs.Table.{rowBytes, tableBytes, putRow, putRows}
-use Rattle.desk.specs.Loads.{topLoad, nextDesk, roomFor, deskAfter, loadOf, tableAfter, loadTable, StepFits, Fillable}
+use Rattle.desk.specs.Loads.{topLoad, roomFor, deskAfter, loadOf, tableAfter, StepFits, Fillable}
 use Rattle.desk.specs.declared.Desk.{Desk}
-use Rattle.desk.specs.declared.Loaded.{Loaded}
 
 -- ---- stores
 
@@ -240,37 +239,27 @@ put-table rs n t e h =
     let q : 0 + length (tableBytes rs) ≡ 10 * n = omega (arith, length-bytes rs) in
     put-sets rs 0 t ∙ sets-eq (tableBytes rs) t 0 (omega arith) ∙ ap (λ (j : ℕ). tableBytes rs ++ drop j t) q
 
-module _ (d : Desk) (f : List ℕ) (k : ℕ) (t : List ℕ) where
-  abbrev Answers : Loaded → Type 0
-  Answers x = loadOf d f k (length t) ≡ x
+-- an acceptance with room is one of the judge, and has the room
+pub room-right : (bytes : ℕ) (j : Judged) (n : ℕ) → Accepted n ≡ roomFor bytes j → (j ≡ Accepted n) × (10 * n ≤ bytes)
+unfolding roomFor
+room-right bytes (Refused r l) n = λ e. absurd (not-both (sym e) refl)
+room-right bytes (Accepted m) n = go (ltb bytes (10 * m)) refl
+  where
+    go : (t : Bool) → ltb bytes (10 * m) ≡ t → Accepted n ≡ elim t [ true ↦ Refused Reasons.NoRoom 0 | false ↦ Accepted m ] → (Accepted m ≡ Accepted n) × (10 * n ≤ bytes)
+    go true q e = absurd (not-both (sym e) refl)
+    go false q e = let z : n ≡ m = cc in (sym e, rw z (ltb-false _ _ q))
 
-  pub load-spent : d .load .0 ≡ topLoad → Answers (record { desk = d; answer = Refused Reasons.Spent 0 })
+-- so the table is filled as the answer says
+pub table-filled : (f : List ℕ) (k n : ℕ) (t : List ℕ) (rs : List Row) → judgeOf f k ≡ Accepted n → 10 * n ≤ length t → rowsOf f k ≡ rs
+    → putRows 0 rs t ≡ tableAfter (Accepted n) (rowsOf f k) t
+unfolding tableAfter
+table-filled f k n t rs q h e = rw (← e) (put-table (rowsOf f k) n t (rows-count f k n q) h)
+
+module _ (d : Desk) (f : List ℕ) (k : ℕ) (bytes : ℕ) where
+  pub load-spent : d .load .0 ≡ topLoad → loadOf d f k bytes ≡ record { desk = d; answer = Refused Reasons.Spent 0 }
   unfolding loadOf
   load-spent h = rw (eq-eqb _ _ h, loadOf)
 
-  module _ (more : d .load .0 ≡ topLoad → ⊥) where
-    load-room : (j : Judged) → roomFor (length t) (judgeOf f k) ≡ j → Answers (record { desk = deskAfter d j; answer = j })
-    unfolding loadOf
-    load-room j e = rw (ne-eqb _ _ more, loadOf) (rw e)
-
-    pub load-refused : (r : Reason) (l : ℕ) → judgeOf f k ≡ Refused r l → Answers (record { desk = nextDesk d 0; answer = Refused r l })
-    unfolding roomFor deskAfter
-    load-refused r l e = load-room (Refused r l) (rw e)
-
-    pub load-full : (n : ℕ) → judgeOf f k ≡ Accepted n → length t < 10 * n → Answers (record { desk = nextDesk d 0; answer = Refused Reasons.NoRoom 0 })
-    unfolding roomFor deskAfter
-    load-full n e h = load-room (Refused Reasons.NoRoom 0) (rw e (rw (lt-ltb _ _ h, roomFor)))
-
-    pub load-right : (n : ℕ) → judgeOf f k ≡ Accepted n → 10 * n ≤ length t → Answers (record { desk = nextDesk d n; answer = Accepted n })
-    unfolding roomFor deskAfter
-    load-right n e h = load-room (Accepted n) (rw e (rw (le-ltb _ _ h, roomFor)))
-
-  -- and so the table is
-  pub table-kept : (b : Desk) (r : Reason) (l : ℕ) → Answers (record { desk = b; answer = Refused r l }) → t ≡ loadTable d f k t
-  unfolding tableAfter
-  table-kept b r l e = rw e
-
-  pub table-filled : (b : Desk) (n : ℕ) → Answers (record { desk = b; answer = Accepted n }) → judgeOf f k ≡ Accepted n → 10 * n ≤ length t
-      → putRows 0 (rowsOf f k) t ≡ loadTable d f k t
-  unfolding tableAfter
-  table-filled b n e q h = rw e (put-table (rowsOf f k) n t (rows-count f k n q) h)
+  pub load-answer : (d .load .0 ≡ topLoad → ⊥) → (j : Judged) → j ≡ roomFor bytes (judgeOf f k) → loadOf d f k bytes ≡ record { desk = deskAfter d j; answer = j }
+  unfolding loadOf
+  load-answer more j e = rw (ne-eqb _ _ more, loadOf) (rw (← e))

@@ -17,7 +17,7 @@ ghost use Rattle.step.specs.Step.{freshState};
 ghost use Rattle.judge.specs.Message.{upTo, judgeOf, groupOf, rowsAt, rowsFrom, rowsOf};
 ghost use lib.Seq.{sets};
 ghost use Rattle.desk.specs.Table.{entryBytes, entryAt, rowAt, putRow, putRows};
-ghost use Rattle.desk.specs.Loads.{StepFits, Fillable, nextDesk, loadOf, loadTable, rowHeard, readOf, partHeard};
+ghost use Rattle.desk.specs.Loads.{StepFits, Fillable, nextDesk, roomFor, deskAfter, tableAfter, loadOf, loadTable, rowHeard, readOf, partHeard};
 
 // A load number and a row number are never taken for each other.
 pub struct LoadNumber(pub u32);
@@ -168,14 +168,32 @@ fn fill(feed: &[u8], from: usize, form: Form, total: u32, table: &mut [u8])
     }
 }
 
-// Where an accepted message stands, its rows are put into the table.
-fn fill_message(feed: &[u8], message: usize, total: u32, table: &mut [u8])
-    requires { ⌜ (judgeOf (now feed) message ≡ Judged.Accepted total) × (10 * total ≤ length (now table)) ⌝ }
-    ensures { λ _. ⌜ now (table .exit) ≡ putRows 0 (rowsOf (now (feed .entry)) message) (now (table .entry)) ⌝ }
+// The judgement of a message, with a table of so many bytes.
+fn room_for(bytes: usize, judged: Judged) -> Judged
+    ensures { λ r. ⌜ r ≡ roomFor bytes judged ⌝ }
 {
-    match judge::find_message(feed, message) {
-        Found::Place(at, form) => fill(feed, at, form, total, table),
-        Found::Missing => {}
+    match judged {
+        Judged::Refused(reason, line) => Judged::Refused(reason, line),
+        Judged::Accepted(rows) => {
+            if bytes < ROW_BYTES * (rows as usize) {
+                return Judged::Refused(Reason::NoRoom, 0);
+            }
+            Judged::Accepted(rows)
+        }
+    }
+}
+
+// Where the answer is an acceptance, the message's rows are put into the table.
+fn fill_message(feed: &[u8], message: usize, answer: Judged, table: &mut [u8])
+    requires { ⌜ answer ≡ roomFor (length (now table)) (judgeOf (now feed) message) ⌝ }
+    ensures { λ _. ⌜ now (table .exit) ≡ tableAfter answer (rowsOf (now (feed .entry)) message) (now (table .entry)) ⌝ }
+{
+    match answer {
+        Judged::Refused(_, _) => {}
+        Judged::Accepted(total) => match judge::find_message(feed, message) {
+            Found::Place(at, form) => fill(feed, at, form, total, table),
+            Found::Missing => {}
+        },
     }
 }
 
@@ -206,14 +224,14 @@ impl Desk {
         }
     }
 
-    // The answer to a load that fills nothing.
-    fn refused(self, reason: Reason, line: u32) -> Loaded
+    // The desk after a load with this answer.
+    fn after(self, answer: Judged) -> Desk
         requires { ⌜ self .load .0 < 4294967295 ⌝ }
-        ensures { λ r. ⌜ r ≡ record { desk = nextDesk self 0; answer = Judged.Refused reason line } ⌝ }
+        ensures { λ r. ⌜ r ≡ deskAfter self answer ⌝ }
     {
-        Loaded {
-            desk: self.next(0),
-            answer: Judged::Refused(reason, line),
+        match answer {
+            Judged::Refused(_, _) => self.next(0),
+            Judged::Accepted(rows) => self.next(rows),
         }
     }
 
@@ -228,18 +246,12 @@ impl Desk {
                 answer: Judged::Refused(Reason::Spent, 0),
             };
         }
-        match judge::judge(feed, message) {
-            Judged::Refused(reason, line) => self.refused(reason, line),
-            Judged::Accepted(rows) => {
-                if table.len() < ROW_BYTES * (rows as usize) {
-                    return self.refused(Reason::NoRoom, 0);
-                }
-                fill_message(feed, message, rows, table);
-                Loaded {
-                    desk: self.next(rows),
-                    answer: Judged::Accepted(rows),
-                }
-            }
+        let judged = judge::judge(feed, message);
+        let answer = room_for(table.len(), judged);
+        fill_message(feed, message, answer, table);
+        Loaded {
+            desk: self.after(answer),
+            answer,
         }
     }
 

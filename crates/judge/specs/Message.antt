@@ -3,7 +3,7 @@
 use Prim.Native.Nat.{ℕ, _+_, _-_, _<_}
 use mathlib.Core.Path.{_≡_}
 use mathlib.Core.List.{List, [], _∷_, _++_, map}
-use mathlib.Core.Bool.{Bool, true, false, not, _&&_, _||_}
+use mathlib.Core.Bool.{Bool, true, false, not, _&&_}
 use lib.Dec.{eqb, ltb}
 use lib.ListN.{length, take, drop}
 use Rattle.lines.specs.Feed.{Line, lines, linesAt, textLen, lineLen}
@@ -28,7 +28,6 @@ use Rattle.judge.specs.declared.Found.the-variants.{Place, Missing}
 use Rattle.judge.specs.declared.Judged.{Judged}
 use Rattle.judge.specs.declared.Judged.the-variants.{Accepted, Refused}
 use Rattle.step.specs.declared.State.{State}
-use Rattle.step.specs.declared.Step.{Step}
 use Rattle.judge.specs.declared.Row.{Row}
 
 abbrev pub isOne : Heading → Bool

@@ -2,19 +2,19 @@
 -- Assumes nothing.
 use mathlib.Core.Path.{_≡_, refl, sym, ap, ap₂, _∙_}
 use mathlib.Core.List.{List, [], _∷_, _++_}
-use mathlib.Core.Bool.{Bool, true, false, not, _&&_, _||_}
+use mathlib.Core.Bool.{Bool, true, false, _&&_, _||_}
 use Prim.Native.Nat.{ℕ, zero, suc, _+_, _-_, _≤_, _<_}
-use native.Mathlib.Nat.{suc-ne-zero, not-suc-le-zero}
+use native.Mathlib.Nat.{not-suc-le-zero}
 use native.Mathlib.Numerals.{add-one}
 use native.Mathlib.Omega.{arith}
 use lib.Dec.{eqb, ltb}
-use lib.ListN.{length, getD, take, drop, length-append, length-take, length-drop, drop-of-length-le}
+use lib.ListN.{length, getD, take, drop, length-take, length-drop, drop-of-length-le}
 use lib.Seq.{drop-cons, drop-drop, take-suc}
 use borrow.Author.Tests.{eq-eqb, ne-eqb}
 use Rattle.words.specs.Words.{bytes, begins}
 use Rattle.words.proofs.Laws.{run-le, part-from}
 use Rattle.lines.specs.Feed.{isEnd, joins, textLen, endWith, endLen, lineLen, endsOf}
-use Rattle.lines.specs.Text.{isBlank, blanks, cutEnd, trimOf, moved, heads, headingOf, commentOf, wordEnds, fieldsFrom, fieldThen, gathered}
+use Rattle.lines.specs.Text.{isBlank, blanks, cutEnd, trimOf, moved, heads, commentOf, wordEnds, fieldsFrom, fieldThen, gathered}
 use Rattle.lines.specs.declared.Ends.{Ends}
 use Rattle.lines.specs.declared.Comment.the-variants.{Value, Other}
 use Rattle.lines.specs.declared.Span.{Span}

@@ -1,9 +1,9 @@
 -- What a line's text can be, by document 01, "Feeds, lines and headings" and "What a line can be".
 -- Assumes nothing.
 use Prim.Native.Nat.{ℕ, _+_}
-use mathlib.Core.List.{List, [], _∷_, _++_}
+use mathlib.Core.List.{List, [], _∷_}
 use mathlib.Core.Bool.{Bool, true, false, not, _&&_, _||_}
-use lib.Dec.{eqb, ltb, leb}
+use lib.Dec.{eqb, ltb}
 use lib.ListN.{length, take, drop, set}
 use Rattle.words.specs.Words.{bytes, begins, run}
 use Rattle.lines.specs.declared.Span.{Span}

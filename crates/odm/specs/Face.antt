@@ -32,13 +32,11 @@ deskNos load count = record { load = record { 0 = load }; count = count }
 abbrev pub ticketNos : ℕ → ℕ → Ticket
 ticketNos load row = record { load = record { 0 = load }; row = record { 0 = row } }
 
--- the next desk, and the answer
-abbrev pub answerNos : Desk → Judged → OdmPlaced
-answerNos d (Accepted n) = record { load = d .load .0; count = d .count; reason = 0; line = 0 }
-answerNos d (Refused r l) = record { load = d .load .0; count = d .count; reason = reasonNo r; line = l }
-
+-- the next desk's numbers, and the answer's
 abbrev pub placedNos : Loaded → OdmPlaced
-placedNos x = answerNos (x .desk) (x .answer)
+placedNos x =
+    let a = judgedNos (x .answer) in
+    record { load = x .desk .load .0; count = x .desk .count; reason = a .reason; line = a .line }
 
 abbrev pub rowNos : Heard → OdmRow
 rowNos (Spoken r) = record { reason = 0; code = r .code; group = r .group; line = r .line; start = r .start; length = r .length }

@@ -58,12 +58,11 @@ pub extern "C" fn odm_headings(feed: &[u8]) -> OdmCounted
     }
 }
 
-// A message of a feed, judged.
-#[no_mangle]
-pub extern "C" fn odm_judge(feed: &[u8], message: usize) -> OdmJudged
-    ensures { λ r. ⌜ r ≡ judgedNos (judgeOf (now (feed .entry)) message) ⌝ }
+// The numbers of an answer.
+fn judged_numbers(judged: Judged) -> OdmJudged
+    ensures { λ r. ⌜ r ≡ judgedNos judged ⌝ }
 {
-    match judge::judge(feed, message) {
+    match judged {
         Judged::Accepted(rows) => OdmJudged {
             reason: 0,
             line: 0,
@@ -75,6 +74,14 @@ pub extern "C" fn odm_judge(feed: &[u8], message: usize) -> OdmJudged
             rows: 0,
         },
     }
+}
+
+// A message of a feed, judged.
+#[no_mangle]
+pub extern "C" fn odm_judge(feed: &[u8], message: usize) -> OdmJudged
+    ensures { λ r. ⌜ r ≡ judgedNos (judgeOf (now (feed .entry)) message) ⌝ }
+{
+    judged_numbers(judge::judge(feed, message))
 }
 
 // A message judged and, where it is right and the table has room, its rows put into the table.
@@ -96,20 +103,13 @@ pub extern "C" fn odm_place(
     let loaded = desk.load(feed, message, table);
     let next = loaded.desk;
     let number = next.load;
-    let answer = loaded.answer;
-    match answer {
-        Judged::Accepted(_) => OdmPlaced {
-            load: number.0,
-            count: next.count,
-            reason: 0,
-            line: 0,
-        },
-        Judged::Refused(reason, line) => OdmPlaced {
-            load: number.0,
-            count: next.count,
-            reason: reason_number(reason),
-            line,
-        },
+    let judged = loaded.answer;
+    let answer = judged_numbers(judged);
+    OdmPlaced {
+        load: number.0,
+        count: next.count,
+        reason: answer.reason,
+        line: answer.line,
     }
 }
 

@@ -1,9 +1,9 @@
 -- Whatever a step answers has one of four forms: an offence, no row, one row whose value lies in the text, or seven of them.
 -- Assumes nothing.
-use mathlib.Core.Path.{_≡_, refl, sym, ap, _∙_}
+use mathlib.Core.Path.{_≡_, refl}
 use mathlib.Core.List.{List, [], _∷_}
 use mathlib.Core.Bool.{Bool, true, false, _&&_, false≢true}
-use Prim.Native.Nat.{ℕ, zero, suc, _+_, _-_, _≤_, _<_}
+use Prim.Native.Nat.{ℕ, _+_, _-_, _≤_}
 use native.Mathlib.Omega.{arith}
 use lib.Dec.{eqb, ltb, leb}
 use borrow.Author.Tests.{leb-true, ltb-true}
@@ -29,7 +29,7 @@ use Rattle.grammar.specs.declared.Keyword.the-variants.{Code, Unknown}
 use Rattle.grammar.specs.declared.Kind.{Kind}
 use Rattle.grammar.specs.declared.Kind.the-variants.{Version, Text, Integer, Number, Epoch, Nothing}
 use Rattle.values.specs.Number.{isNumber, isText, isVersion, isInteger}
-use Rattle.step.specs.Step.{wrong, noRow, oneRow, sevenRows, past, fitsHere, part, Inside, SevenInside, areNumbers, isTimely, pastData, dataAt, dataOf, fieldsOf, wholeOf, wordLen, numberOf, pastTime, isEarly, timeOf, valueOf, assignOf, metaCode, metaOf, plainOf, pastComment, uncommentedOf, filledOf, stepOf}
+use Rattle.step.specs.Step.{wrong, noRow, oneRow, sevenRows, fitsHere, part, Inside, SevenInside, areNumbers, isTimely, dataAt, dataOf, fieldsOf, wholeOf, wordLen, numberOf, pastTime, isEarly, timeOf, valueOf, assignOf, metaCode, metaOf, plainOf, pastComment, uncommentedOf, filledOf, stepOf}
 use Rattle.step.specs.declared.State.{State}
 use Rattle.step.specs.declared.Step.{Step}
 use Rattle.step.specs.declared.Reason.{Reason}

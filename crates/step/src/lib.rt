@@ -246,10 +246,12 @@ impl State {
         ensures { λ r. ⌜ r ≡ dataAt self f t (now (text .entry)) ⌝ }
     {
         let spans = f.spans;
-        if !are_numbers(spans, text) {
+        let numbers = are_numbers(spans, text);
+        let timely = self.is_timely(t);
+        if !numbers {
             return self.wrong(Reason::Value);
         }
-        if !self.is_timely(t) {
+        if !timely {
             return self.wrong(Reason::TimeOrder);
         }
         Step {

@@ -1,10 +1,26 @@
--- `desk::fill_message` meets its contract: the message is filled from the place where it is found, which an accepted message has.
+-- `desk::fill_message` meets its contract: nothing on a refusal; an accepted message is filled from the place where it is found.
 -- Assumes nothing.
-use mathlib.Core.Path.{_∙_}
-use Rattle.desk.proofs.Fills.{not-missing, found-fillable, found-rows}
+use mathlib.Core.Path.{_≡_, sym, _∙_}
+use Prim.Native.Nat.{_*_, _≤_}
+use lib.ListN.{length}
+use Rattle.judge.specs.Message.{judgeOf}
+use Rattle.judge.specs.declared.Judged.the-variants.{Accepted}
+use Rattle.desk.specs.Loads.{tableAfter}
+use Rattle.desk.proofs.Fills.{room-right, not-missing, found-fillable, found-rows, table-filled}
 use borrow.Author.Needs.{needs}
 use Rattle.desk.proofs.fill_message.Statement.{statement}
 use Rattle.desk.proofs.fill_message.Tie as tie
+
+-- an acceptance is one of the judge, with room
+right : (c : tie.After-answer) → let s = c .before .before .before .before in let n = c .answer .given .0 .0 in
+    (judgeOf (s .args .feed .now) (s .args .message) ≡ Accepted n) × (10 * n ≤ length (s .args .table .now))
+right c = room-right _ _ _ (sym (c .answer .given .1) ∙ c .before .before .before .before .pre)
+
+enum-told : tie.Need-enum-told
+enum-told c = search needs
+
+enum-known-answer : tie.Need-enum-known-answer
+enum-known-answer c = search needs
 
 find-message-requires : tie.Need-find-message-requires
 find-message-requires c κs = search needs
@@ -15,34 +31,43 @@ enum-known-at c = search needs
 fill-requires : tie.Need-fill-requires
 fill-requires c κs =
     let b = c .before .before .before .before in
-    let s = b .before .before .before in
-    found-fillable _ _ _ (s .pre .0) _ _ (rw (c .before .before .at .given .1) at (b .find-message .ensures)) _ (s .pre .1)
+    let r = right (b .before .before) in
+    found-fillable _ _ _ (r .0) _ _ (rw (c .before .before .at .given .1) at (b .find-message .ensures)) _ (r .1)
 
-enum-told : tie.Need-enum-told
-enum-told c = search needs
+enum-told-2 : tie.Need-enum-told-2
+enum-told-2 c = search needs
+
+returns : tie.Need-returns
+unfolding tableAfter
+returns c = rw (c .enum-told .given .1)
 
 same-length : tie.Need-same-length
 same-length c = search needs
 
-returns : tie.Need-returns
-returns c =
-    let b = c .before .before .before .before .before .before .before in
-    let s = b .before .before .before in
-    c .before .before .fill .ensures ∙ rw (found-rows _ _ _ (s .pre .0) _ _ (rw (c .before .before .before .before .before .at .given .1) at (b .find-message .ensures)))
-
 returns-2 : tie.Need-returns-2
 returns-2 c =
+    let b = c .before .before .before .before .before .before .before in
+    let a = b .before .before in
+    let r = right a in
+    let q = found-rows _ _ _ (r .0) _ _ (rw (c .before .before .before .before .before .at .given .1) at (b .find-message .ensures)) in
+    rw (a .answer .given .1) (c .before .before .fill .ensures ∙ table-filled _ _ _ _ _ (r .0) (r .1) q)
+
+returns-3 : tie.Need-returns-3
+returns-3 c =
     let b = c .before .before in
-    absurd (not-missing _ _ _ (b .before .before .before .pre .0) (rw (c .enum-told .given .1) at (b .find-message .ensures)))
+    absurd (not-missing _ _ _ (right (b .before .before) .0) (rw (c .enum-told2 .given .1) at (b .find-message .ensures)))
 
 pub fill-message-spec : {M : Type 1} → statement M
 fill-message-spec =
     tie.close
     (tie.spec
+    enum-told
+    enum-known-answer
     find-message-requires
     enum-known-at
     fill-requires
-    enum-told
-    same-length
+    enum-told-2
     returns
-    returns-2)
+    same-length
+    returns-2
+    returns-3)

@@ -1,14 +1,9 @@
 -- `leaves::say_allowed` is safe and ends: the code stays within what a `u16` holds.
 -- Assumes nothing.
 use Prim.Native.Nat.{_≤_, _-_}
-use native.Mathlib.Omega.{arith}
 use borrow.Author.Needs.{needs}
 use Rattle.leaves.proofs.say_allowed.Statement.{statement}
 use Rattle.leaves.proofs.say_allowed.Tie as tie
-use Rattle.leaves.proofs.say_allowed.Reads as reads
-use Rattle.leaves.proofs.say_allowed.Lts as lts
-use Rattle.grammar.proofs.allows_code.Reads as allows-code-reads
-use Rattle.leaves.proofs.say_number.Reads as say-number-reads
 
 abbrev Inv-loop : tie.InvT-loop
 Inv-loop next code₀ code = code ≤ 50

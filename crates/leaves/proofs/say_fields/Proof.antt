@@ -1,17 +1,9 @@
 -- `leaves::say_fields` is safe and ends: seven spans.
 -- Assumes nothing.
 use Prim.Native.Nat.{_≤_, _-_}
-use native.Mathlib.Omega.{arith}
 use borrow.Author.Needs.{needs}
-use mathlib.Core.Path.{_≡_}
-use lib.ListN.{length}
 use Rattle.leaves.proofs.say_fields.Statement.{statement}
 use Rattle.leaves.proofs.say_fields.Tie as tie
-use Rattle.leaves.proofs.say_fields.Reads as reads
-use Rattle.leaves.proofs.say_fields.Lts as lts
-use Rattle.leaves.proofs.say_number.Reads as say-number-reads
-use Rattle.leaves.proofs.say_span.Reads as say-span-reads
-use Rattle.lines.proofs.fields_of.Reads as fields-of-reads
 
 abbrev Inv-loop : tie.InvT-loop
 Inv-loop text spans i₀ i = i ≤ 7

@@ -2,15 +2,10 @@
 -- Assumes nothing.
 use Prim.Native.Nat.{_≤_, _-_}
 use native.Mathlib.Omega.{arith}
-use borrow.Author.Needs.{needs}
 use lib.ListN.{length}
 use Rattle.lines.proofs.Lists.{Placed, placed}
 use Rattle.leaves.proofs.say_lines.Statement.{statement}
 use Rattle.leaves.proofs.say_lines.Tie as tie
-use Rattle.leaves.proofs.say_lines.Reads as reads
-use Rattle.leaves.proofs.say_lines.Lts as lts
-use Rattle.leaves.proofs.say_line.Reads as say-line-reads
-use Rattle.lines.proofs.line_at.Reads as line-at-reads
 
 abbrev Inv-loop : tie.InvT-loop
 Inv-loop feed at₀ at = at ≤ length feed

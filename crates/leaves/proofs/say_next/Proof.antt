@@ -1,13 +1,9 @@
 -- `leaves::say_next` is safe and ends: the code stays within what a `u16` holds.
 -- Assumes nothing.
 use Prim.Native.Nat.{_≤_, _-_}
-use native.Mathlib.Omega.{arith}
 use borrow.Author.Needs.{needs}
 use Rattle.leaves.proofs.say_next.Statement.{statement}
 use Rattle.leaves.proofs.say_next.Tie as tie
-use Rattle.leaves.proofs.say_next.Reads as reads
-use Rattle.leaves.proofs.say_next.Lts as lts
-use Rattle.leaves.proofs.say_row.Reads as say-row-reads
 
 abbrev Inv-loop : tie.InvT-loop
 Inv-loop form last₀ last = last ≤ 50

@@ -1,14 +1,9 @@
 -- `leaves::say_unit` is safe and ends: the code stays within what a `u16` holds.
 -- Assumes nothing.
 use Prim.Native.Nat.{_≤_, _-_}
-use native.Mathlib.Omega.{arith}
 use borrow.Author.Needs.{needs}
 use Rattle.leaves.proofs.say_unit.Statement.{statement}
 use Rattle.leaves.proofs.say_unit.Tie as tie
-use Rattle.leaves.proofs.say_unit.Reads as reads
-use Rattle.leaves.proofs.say_unit.Lts as lts
-use Rattle.grammar.proofs.unit_right.Reads as unit-right-reads
-use Rattle.leaves.proofs.say_number.Reads as say-number-reads
 
 abbrev Inv-loop : tie.InvT-loop
 Inv-loop text code₀ code = code ≤ 50

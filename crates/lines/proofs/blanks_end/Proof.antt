@@ -9,8 +9,6 @@ use borrow.Author.Tests.{eq-eqb, ne-eqb}
 use Rattle.lines.specs.Text.{blanks}
 use Rattle.lines.proofs.blanks_end.Statement.{statement}
 use Rattle.lines.proofs.blanks_end.Tie as tie
-use Rattle.lines.proofs.blanks_end.Reads as reads
-use Rattle.lines.proofs.blanks_end.Lts as lts
 
 abbrev Inv-loop : tie.InvT-loop
 Inv-loop text from at₀ at = from + blanks (drop from text) ≡ at + blanks (drop at text)

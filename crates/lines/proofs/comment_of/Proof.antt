@@ -11,12 +11,6 @@ use Rattle.lines.specs.declared.Comment.the-variants.{Value}
 use borrow.Author.Needs.{needs}
 use Rattle.lines.proofs.comment_of.Statement.{statement}
 use Rattle.lines.proofs.comment_of.Tie as tie
-use Rattle.lines.proofs.comment_of.Reads as reads
-use Rattle.lines.proofs.comment_of.Lts as lts
-use Rattle.lines.proofs.blanks_end.Reads as blanks-end-reads
-use Rattle.lines.proofs.trim_from.Reads as trim-from-reads
-use Rattle.lines.proofs.word_ends.Reads as word-ends-reads
-use Rattle.words.proofs.begins_at.Reads as begins-at-reads
 
 blanks-end-requires : tie.Need-blanks-end-requires
 blanks-end-requires c κs = search needs

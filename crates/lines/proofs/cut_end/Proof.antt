@@ -1,7 +1,7 @@
 -- `lines::cut_end` meets its contract: a blank at the end is cut, and the first other byte from the end stops the walk.
 -- Assumes nothing.
 use Prim.Native.Nat.{_≤_}
-use mathlib.Core.Path.{_≡_, refl, sym, ap, _∙_}
+use mathlib.Core.Path.{_≡_, sym, ap, _∙_}
 use native.Mathlib.Omega.{arith}
 use lib.ListN.{length, take}
 use lib.Seq.{take-length}
@@ -9,8 +9,6 @@ use Rattle.lines.specs.Text.{cutEnd}
 use Rattle.lines.proofs.Laws.{cut-blank, cut-stop, cut-start}
 use Rattle.lines.proofs.cut_end.Statement.{statement}
 use Rattle.lines.proofs.cut_end.Tie as tie
-use Rattle.lines.proofs.cut_end.Reads as reads
-use Rattle.lines.proofs.cut_end.Lts as lts
 
 abbrev Inv-loop : tie.InvT-loop
 Inv-loop text end₀ end = (end ≤ length text) × (cutEnd text ≡ cutEnd (take end text))

@@ -6,9 +6,6 @@ use Rattle.lines.proofs.Laws.{end-none, end-alone, end-pair}
 use borrow.Author.Needs.{needs}
 use Rattle.lines.proofs.end_len.Statement.{statement}
 use Rattle.lines.proofs.end_len.Tie as tie
-use Rattle.lines.proofs.end_len.Reads as reads
-use Rattle.lines.proofs.end_len.Lts as lts
-use Rattle.lines.proofs.ends_with.Reads as ends-with-reads
 
 returns : tie.Need-returns
 returns c = sym (end-none _ _ (c .if1 .taken))

@@ -1,11 +1,9 @@
 -- `lines::ends_with` meets its contract: each return goes by the two bytes.
 -- Assumes nothing.
-use borrow.Author.Tests.{eq-eqb, ne-eqb}
+use borrow.Author.Tests.{ne-eqb}
 use Rattle.lines.specs.Feed.{endWith}
 use Rattle.lines.proofs.ends_with.Statement.{statement}
 use Rattle.lines.proofs.ends_with.Tie as tie
-use Rattle.lines.proofs.ends_with.Reads as reads
-use Rattle.lines.proofs.ends_with.Lts as lts
 
 returns : tie.Need-returns
 unfolding endWith

@@ -1,7 +1,7 @@
 -- `lines::equals_at` meets its contract: a walk along the bytes before the first `=`.
 -- Assumes nothing.
 use Prim.Native.Nat.{_+_, _-_}
-use mathlib.Core.Path.{_≡_, refl}
+use mathlib.Core.Path.{_≡_}
 use native.Mathlib.Omega.{arith}
 use lib.ListN.{length, drop}
 use Rattle.words.proofs.Laws.{walk-more, walk-stop, walk-end}
@@ -9,8 +9,6 @@ use borrow.Author.Tests.{eq-eqb, ne-eqb}
 use Rattle.lines.specs.Text.{equalsAt}
 use Rattle.lines.proofs.equals_at.Statement.{statement}
 use Rattle.lines.proofs.equals_at.Tie as tie
-use Rattle.lines.proofs.equals_at.Reads as reads
-use Rattle.lines.proofs.equals_at.Lts as lts
 
 abbrev Inv-loop : tie.InvT-loop
 Inv-loop text at₀ at = equalsAt text ≡ at + equalsAt (drop at text)

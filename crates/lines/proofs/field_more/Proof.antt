@@ -5,8 +5,6 @@ use Rattle.lines.specs.Text.{fieldMore}
 use borrow.Author.Needs.{needs}
 use Rattle.lines.proofs.field_more.Statement.{statement}
 use Rattle.lines.proofs.field_more.Tie as tie
-use Rattle.lines.proofs.field_more.Reads as reads
-use Rattle.lines.proofs.field_more.Lts as lts
 
 mul-spans : tie.Need-mul-spans
 mul-spans c = search needs

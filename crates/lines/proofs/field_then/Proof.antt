@@ -1,14 +1,11 @@
 -- `lines::field_then` meets its contract.
 -- Assumes nothing.
-use mathlib.Core.Path.{_≡_, _∙_, sym}
+use mathlib.Core.Path.{_∙_}
 use borrow.Author.Tests.{lt-ltb, le-ltb}
 use Rattle.lines.specs.Text.{fieldThen, gathered}
 use borrow.Author.Needs.{needs}
 use Rattle.lines.proofs.field_then.Statement.{statement}
 use Rattle.lines.proofs.field_then.Tie as tie
-use Rattle.lines.proofs.field_then.Reads as reads
-use Rattle.lines.proofs.field_then.Lts as lts
-use Rattle.lines.proofs.field_more.Reads as field-more-reads
 
 field-more-requires : tie.Need-field-more-requires
 field-more-requires c κs = search needs

@@ -1,6 +1,6 @@
 -- `lines::fields_of` meets its contract: the fields gathered, then those of what is left, are those of the whole.
 -- Assumes nothing.
-use Prim.Native.Nat.{_≤_, _-_}
+use Prim.Native.Nat.{_-_}
 use mathlib.Core.Path.{_≡_, refl, sym, ap, _∙_}
 use native.Mathlib.Omega.{arith}
 use lib.ListN.{length, drop}
@@ -8,9 +8,6 @@ use Rattle.lines.specs.Text.{fieldsFrom, gathered, splitOf}
 use Rattle.lines.proofs.Laws.{fields-end, fields-blank, fields-more, gather-then}
 use Rattle.lines.proofs.fields_of.Statement.{statement}
 use Rattle.lines.proofs.fields_of.Tie as tie
-use Rattle.lines.proofs.fields_of.Reads as reads
-use Rattle.lines.proofs.fields_of.Lts as lts
-use Rattle.lines.proofs.field_then.Reads as field-then-reads
 
 abbrev Inv-loop : tie.InvT-loop
 Inv-loop text f₀ from₀ at₀ f from at = splitOf text ≡ gathered f (fieldsFrom from at (drop at text))

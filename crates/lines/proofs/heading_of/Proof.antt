@@ -7,9 +7,6 @@ use Rattle.lines.specs.Text.{heads, headingOf}
 use borrow.Author.Needs.{needs}
 use Rattle.lines.proofs.heading_of.Statement.{statement}
 use Rattle.lines.proofs.heading_of.Tie as tie
-use Rattle.lines.proofs.heading_of.Reads as reads
-use Rattle.lines.proofs.heading_of.Lts as lts
-use Rattle.lines.proofs.heads_with.Reads as heads-with-reads
 
 slice-aggregate-heads-with : tie.Need-slice-aggregate-heads-with
 slice-aggregate-heads-with c = search needs

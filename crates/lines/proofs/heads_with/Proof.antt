@@ -10,10 +10,6 @@ use Rattle.lines.proofs.Laws.{heads-no, heads-yes}
 use borrow.Author.Needs.{needs}
 use Rattle.lines.proofs.heads_with.Statement.{statement}
 use Rattle.lines.proofs.heads_with.Tie as tie
-use Rattle.lines.proofs.heads_with.Reads as reads
-use Rattle.lines.proofs.heads_with.Lts as lts
-use Rattle.lines.proofs.blanks_end.Reads as blanks-end-reads
-use Rattle.words.proofs.begins_at.Reads as begins-at-reads
 
 blanks-end-requires : tie.Need-blanks-end-requires
 blanks-end-requires c κs = search needs

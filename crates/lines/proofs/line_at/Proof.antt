@@ -6,10 +6,6 @@ use Rattle.lines.proofs.Laws.{end-le, line-is}
 use borrow.Author.Needs.{needs}
 use Rattle.lines.proofs.line_at.Statement.{statement}
 use Rattle.lines.proofs.line_at.Tie as tie
-use Rattle.lines.proofs.line_at.Reads as reads
-use Rattle.lines.proofs.line_at.Lts as lts
-use Rattle.lines.proofs.end_len.Reads as end-len-reads
-use Rattle.lines.proofs.text_end.Reads as text-end-reads
 
 text-end-requires : tie.Need-text-end-requires
 text-end-requires c κs = search needs

@@ -1,7 +1,7 @@
 -- `lines::odd_at` meets its contract: a walk along the bytes 32 to 126.
 -- Assumes nothing.
 use Prim.Native.Nat.{_+_, _-_}
-use mathlib.Core.Path.{_≡_, refl}
+use mathlib.Core.Path.{_≡_}
 use native.Mathlib.Omega.{arith}
 use lib.ListN.{length, drop}
 use Rattle.words.proofs.Laws.{walk-more, walk-stop, walk-end}
@@ -9,8 +9,6 @@ use borrow.Author.Tests.{lt-ltb, le-ltb}
 use Rattle.lines.specs.Text.{oddAt}
 use Rattle.lines.proofs.odd_at.Statement.{statement}
 use Rattle.lines.proofs.odd_at.Tie as tie
-use Rattle.lines.proofs.odd_at.Reads as reads
-use Rattle.lines.proofs.odd_at.Lts as lts
 
 abbrev Inv-loop : tie.InvT-loop
 Inv-loop text at₀ at = oddAt text ≡ at + oddAt (drop at text)

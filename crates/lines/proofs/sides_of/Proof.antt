@@ -1,18 +1,13 @@
 -- `lines::sides_of` meets its contract: each side is trimmed.
 -- Assumes nothing.
-use mathlib.Core.Path.{_≡_, ap₂}
+use mathlib.Core.Path.{ap₂}
 use native.Mathlib.Omega.{arith}
 use lib.ListN.{length-take}
 use Rattle.lines.specs.Text.{sidesOf}
 use Rattle.lines.specs.declared.Span.{Span}
-use Rattle.lines.specs.declared.Sides.{Sides}
 use borrow.Author.Needs.{needs}
 use Rattle.lines.proofs.sides_of.Statement.{statement}
 use Rattle.lines.proofs.sides_of.Tie as tie
-use Rattle.lines.proofs.sides_of.Reads as reads
-use Rattle.lines.proofs.sides_of.Lts as lts
-use Rattle.lines.proofs.trim.Reads as trim-reads
-use Rattle.lines.proofs.trim_from.Reads as trim-from-reads
 
 slice-aggregate-trim : tie.Need-slice-aggregate-trim
 slice-aggregate-trim c = let a = c .before .before .args in omega (arith, length-take (a .n) (a .text .now))

@@ -9,8 +9,6 @@ use borrow.Author.Tests.{eq-eqb, ne-eqb}
 use Rattle.lines.specs.Feed.{textLen}
 use Rattle.lines.proofs.text_end.Statement.{statement}
 use Rattle.lines.proofs.text_end.Tie as tie
-use Rattle.lines.proofs.text_end.Reads as reads
-use Rattle.lines.proofs.text_end.Lts as lts
 
 abbrev Inv-loop : tie.InvT-loop
 Inv-loop feed from end₀ end = from + textLen (drop from feed) ≡ end + textLen (drop end feed)

@@ -6,10 +6,6 @@ use lib.ListN.{length-take}
 use borrow.Author.Needs.{needs}
 use Rattle.lines.proofs.trim.Statement.{statement}
 use Rattle.lines.proofs.trim.Tie as tie
-use Rattle.lines.proofs.trim.Reads as reads
-use Rattle.lines.proofs.trim.Lts as lts
-use Rattle.lines.proofs.blanks_end.Reads as blanks-end-reads
-use Rattle.lines.proofs.cut_end.Reads as cut-end-reads
 
 cut-end-requires : tie.Need-cut-end-requires
 cut-end-requires c κs = search needs

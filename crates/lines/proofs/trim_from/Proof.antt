@@ -1,17 +1,13 @@
 -- `lines::trim_from` meets its contract: the part is trimmed, and its places are moved.
 -- Assumes nothing.
-use mathlib.Core.Path.{_≡_, ap, _∙_}
+use mathlib.Core.Path.{ap, _∙_}
 use native.Mathlib.Omega.{arith}
-use lib.ListN.{drop, length-drop}
 use Rattle.words.proofs.Laws.{part-from}
 use Rattle.lines.specs.Text.{trimOf, moved}
 use Rattle.lines.proofs.Laws.{part-within}
 use borrow.Author.Needs.{needs}
 use Rattle.lines.proofs.trim_from.Statement.{statement}
 use Rattle.lines.proofs.trim_from.Tie as tie
-use Rattle.lines.proofs.trim_from.Reads as reads
-use Rattle.lines.proofs.trim_from.Lts as lts
-use Rattle.lines.proofs.trim.Reads as trim-reads
 
 sub-trim : tie.Need-sub-trim
 sub-trim c = search needs

@@ -5,8 +5,6 @@ use Rattle.lines.proofs.Laws.{word-ends-end, word-ends-at}
 use borrow.Author.Needs.{needs}
 use Rattle.lines.proofs.word_ends.Statement.{statement}
 use Rattle.lines.proofs.word_ends.Tie as tie
-use Rattle.lines.proofs.word_ends.Reads as reads
-use Rattle.lines.proofs.word_ends.Lts as lts
 
 returns : tie.Need-returns
 returns c = sym (word-ends-end _ _ (c .if1 .taken))

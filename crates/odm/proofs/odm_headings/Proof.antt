@@ -4,10 +4,6 @@ use mathlib.Core.Path.{_∙_, sym}
 use borrow.Author.Needs.{needs}
 use Rattle.odm.proofs.odm_headings.Statement.{statement}
 use Rattle.odm.proofs.odm_headings.Tie as tie
-use Rattle.odm.proofs.odm_headings.Reads as reads
-use Rattle.odm.proofs.odm_headings.Lts as lts
-use Rattle.judge.proofs.count_headings.Reads as count-headings-reads
-use Rattle.step.proofs.reason_number.Reads as reason-number-reads
 
 count-headings-requires : tie.Need-count-headings-requires
 count-headings-requires c κs = search needs

@@ -4,10 +4,6 @@ use mathlib.Core.Path.{_∙_, sym}
 use borrow.Author.Needs.{needs}
 use Rattle.odm.proofs.odm_read.Statement.{statement}
 use Rattle.odm.proofs.odm_read.Tie as tie
-use Rattle.odm.proofs.odm_read.Reads as reads
-use Rattle.odm.proofs.odm_read.Lts as lts
-use Rattle.desk.proofs.Desk.read.Reads as read-reads
-use Rattle.step.proofs.reason_number.Reads as reason-number-reads
 
 read-requires : tie.Need-read-requires
 read-requires c κs = search needs

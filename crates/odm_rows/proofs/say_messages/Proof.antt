@@ -1,16 +1,11 @@
 -- `odm_rows::say_messages` is safe and ends: the message number goes up to the count.
 -- Assumes nothing.
 use Prim.Native.Nat.{_≤_, _-_}
-use native.Mathlib.Omega.{arith}
 use borrow.Author.Needs.{needs}
 use mathlib.Core.Path.{_≡_}
 use lib.ListN.{length}
 use Rattle.odm_rows.proofs.say_messages.Statement.{statement}
 use Rattle.odm_rows.proofs.say_messages.Tie as tie
-use Rattle.odm_rows.proofs.say_messages.Reads as reads
-use Rattle.odm_rows.proofs.say_messages.Lts as lts
-use Rattle.desk.proofs.Desk.fresh.Reads as fresh-reads
-use Rattle.odm_rows.proofs.say_message.Reads as say-message-reads
 
 abbrev Inv-loop : tie.InvT-loop
 Inv-loop feed count table₀ desk₀ message₀ table desk message = (message ≤ count) × (length table ≡ length table₀)

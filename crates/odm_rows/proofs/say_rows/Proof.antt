@@ -1,13 +1,9 @@
 -- `odm_rows::say_rows` is safe and ends: the row number goes up to the count.
 -- Assumes nothing.
 use Prim.Native.Nat.{_≤_, _-_}
-use native.Mathlib.Omega.{arith}
 use borrow.Author.Needs.{needs}
 use Rattle.odm_rows.proofs.say_rows.Statement.{statement}
 use Rattle.odm_rows.proofs.say_rows.Tie as tie
-use Rattle.odm_rows.proofs.say_rows.Reads as reads
-use Rattle.odm_rows.proofs.say_rows.Lts as lts
-use Rattle.odm_rows.proofs.say_row.Reads as say-row-reads
 
 abbrev Inv-loop : tie.InvT-loop
 Inv-loop desk feed table count n₀ n = n ≤ count

@@ -5,14 +5,11 @@ use mathlib.Core.Path.{_≡_, refl, sym, _∙_}
 use native.Mathlib.Omega.{arith}
 use borrow.Author.Needs.{needs}
 use borrow.Author.Tests.{not-true, not-false}
-use lib.ListN.{length, drop}
+use lib.ListN.{drop}
 use Rattle.step.specs.Step.{areNumbers}
 use Rattle.step.proofs.Laws.{numbers-end, numbers-more, numbers-stop}
 use Rattle.step.proofs.are_numbers.Statement.{statement}
 use Rattle.step.proofs.are_numbers.Tie as tie
-use Rattle.step.proofs.are_numbers.Reads as reads
-use Rattle.step.proofs.are_numbers.Lts as lts
-use Rattle.values.proofs.is_number.Reads as is-number-reads
 
 abbrev Inv-loop : tie.InvT-loop
 Inv-loop text spans i₀ i = (i ≤ 7) × (areNumbers (drop 1 spans) text ≡ areNumbers (drop i spans) text)

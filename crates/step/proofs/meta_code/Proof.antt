@@ -7,9 +7,6 @@ use Rattle.step.specs.Step.{metaCode}
 use borrow.Author.Needs.{needs}
 use Rattle.step.proofs.meta_code.Statement.{statement}
 use Rattle.step.proofs.meta_code.Tie as tie
-use Rattle.step.proofs.meta_code.Reads as reads
-use Rattle.step.proofs.meta_code.Lts as lts
-use Rattle.words.proofs.is_word.Reads as is-word-reads
 
 enum-told : tie.Need-enum-told
 enum-told c = search needs

@@ -1,7 +1,7 @@
 -- `step::word_len` meets its contract: a walk along the bytes that are no blank.
 -- Assumes nothing.
 use Prim.Native.Nat.{_+_, _-_}
-use mathlib.Core.Path.{_≡_, refl}
+use mathlib.Core.Path.{_≡_}
 use native.Mathlib.Omega.{arith}
 use lib.ListN.{length, drop}
 use Rattle.words.proofs.Laws.{walk-more, walk-stop, walk-end}
@@ -9,8 +9,6 @@ use borrow.Author.Tests.{eq-eqb, ne-eqb}
 use Rattle.step.specs.Step.{wordLen}
 use Rattle.step.proofs.word_len.Statement.{statement}
 use Rattle.step.proofs.word_len.Tie as tie
-use Rattle.step.proofs.word_len.Reads as reads
-use Rattle.step.proofs.word_len.Lts as lts
 
 abbrev Inv-loop : tie.InvT-loop
 Inv-loop text i₀ i = wordLen text ≡ i + wordLen (drop i text)

@@ -6,9 +6,6 @@ use Rattle.words.proofs.Laws.{part-from, begins-past}
 use borrow.Author.Needs.{needs}
 use Rattle.words.proofs.begins_at.Statement.{statement}
 use Rattle.words.proofs.begins_at.Tie as tie
-use Rattle.words.proofs.begins_at.Reads as reads
-use Rattle.words.proofs.begins_at.Lts as lts
-use Rattle.words.proofs.begins_with.Reads as begins-with-reads
 
 returns : tie.Need-returns
 returns c = begins-past _ _ _ (c .if1 .taken)

@@ -9,8 +9,6 @@ use Rattle.words.proofs.Laws.{agrees-end, agrees-short, agrees-more, ag
 use borrow.Author.Tests.{eq-eqb, ne-eqb}
 use Rattle.words.proofs.begins_with.Statement.{statement}
 use Rattle.words.proofs.begins_with.Tie as tie
-use Rattle.words.proofs.begins_with.Reads as reads
-use Rattle.words.proofs.begins_with.Lts as lts
 
 abbrev Inv-loop : tie.InvT-loop
 Inv-loop text word i₀ i = begins word text ≡ begins (drop i word) (drop i text)

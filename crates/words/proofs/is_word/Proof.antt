@@ -1,14 +1,10 @@
 -- `words::is_word` meets its contract: the lengths decide, then the bytes.
 -- Assumes nothing.
-use mathlib.Core.Path.{_∙_}
 use borrow.Author.Tests.{eq-eqb, ne-eqb}
 use Rattle.words.specs.Words.{isWord}
 use borrow.Author.Needs.{needs}
 use Rattle.words.proofs.is_word.Statement.{statement}
 use Rattle.words.proofs.is_word.Tie as tie
-use Rattle.words.proofs.is_word.Reads as reads
-use Rattle.words.proofs.is_word.Lts as lts
-use Rattle.words.proofs.begins_with.Reads as begins-with-reads
 
 returns : tie.Need-returns
 unfolding isWord

@@ -6,12 +6,6 @@ use Rattle.step.specs.Step.{assignOf}
 use borrow.Author.Needs.{needs}
 use Rattle.step.proofs.State.assign.Statement.{statement}
 use Rattle.step.proofs.State.assign.Tie as tie
-use Rattle.step.proofs.State.assign.Reads as reads
-use Rattle.step.proofs.State.assign.Lts as lts
-use Rattle.grammar.proofs.keyword_of.Reads as keyword-of-reads
-use Rattle.step.proofs.State.fits.Reads as fits-reads
-use Rattle.step.proofs.State.value.Reads as value-reads
-use Rattle.step.proofs.State.wrong.Reads as wrong-reads
 
 sub-keyword-of : tie.Need-sub-keyword-of
 sub-keyword-of c = search needs

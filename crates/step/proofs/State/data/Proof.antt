@@ -6,12 +6,6 @@ use Rattle.step.specs.Step.{dataOf}
 use borrow.Author.Needs.{needs}
 use Rattle.step.proofs.State.data.Statement.{statement}
 use Rattle.step.proofs.State.data.Tie as tie
-use Rattle.step.proofs.State.data.Reads as reads
-use Rattle.step.proofs.State.data.Lts as lts
-use Rattle.epochs.proofs.epoch_of.Reads as epoch-of-reads
-use Rattle.step.proofs.State.data_at.Reads as data-at-reads
-use Rattle.step.proofs.State.fits.Reads as fits-reads
-use Rattle.step.proofs.State.wrong.Reads as wrong-reads
 
 fits-requires : tie.Need-fits-requires
 fits-requires c κs = search needs

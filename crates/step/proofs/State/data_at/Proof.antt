@@ -6,25 +6,21 @@ use Rattle.step.specs.Step.{dataAt}
 use borrow.Author.Needs.{needs}
 use Rattle.step.proofs.State.data_at.Statement.{statement}
 use Rattle.step.proofs.State.data_at.Tie as tie
-use Rattle.step.proofs.State.data_at.Reads as reads
-use Rattle.step.proofs.State.data_at.Lts as lts
-use Rattle.step.proofs.State.is_timely.Reads as is-timely-reads
-use Rattle.step.proofs.State.past_data.Reads as past-data-reads
-use Rattle.step.proofs.State.wrong.Reads as wrong-reads
-use Rattle.step.proofs.are_numbers.Reads as are-numbers-reads
 
 are-numbers-requires : tie.Need-are-numbers-requires
 are-numbers-requires c κs = search needs
+
+is-timely-requires : tie.Need-is-timely-requires
+is-timely-requires c κs = search needs
 
 wrong-requires : tie.Need-wrong-requires
 wrong-requires c κs = search needs
 
 returns : tie.Need-returns
 unfolding dataAt
-returns c = c .wrong .ensures ∙ rw (sym (c .before .before .are-numbers .ensures) ∙ not-true _ (c .before .if1 .taken), dataAt)
-
-is-timely-requires : tie.Need-is-timely-requires
-is-timely-requires c κs = search needs
+returns c =
+    let t = c .before .before in
+    c .wrong .ensures ∙ rw (sym (t .before .are-numbers .ensures) ∙ not-true _ (c .before .if1 .taken), dataAt)
 
 wrong-requires-2 : tie.Need-wrong-requires-2
 wrong-requires-2 c κs = search needs
@@ -32,9 +28,10 @@ wrong-requires-2 c κs = search needs
 returns-2 : tie.Need-returns-2
 unfolding dataAt
 returns-2 c =
-    let t = c .before .before in
+    let i = c .before .before in
+    let t = i .before in
     c .wrong2 .ensures
-    ∙ rw (sym (t .before .before .are-numbers .ensures) ∙ not-false _ (t .before .if1 .left), dataAt) (rw (sym (t .is-timely .ensures) ∙ not-true _ (c .before .if2 .taken)))
+    ∙ rw (sym (t .before .are-numbers .ensures) ∙ not-false _ (i .if1 .left), dataAt) (rw (sym (t .is-timely .ensures) ∙ not-true _ (c .before .if2 .taken)))
 
 past-data-requires : tie.Need-past-data-requires
 past-data-requires c κs = search needs
@@ -42,18 +39,19 @@ past-data-requires c κs = search needs
 returns-3 : tie.Need-returns-3
 unfolding dataAt
 returns-3 c =
-    let t = c .before .before in
+    let i = c .before .before in
+    let t = i .before in
     rw (c .past-data .ensures)
-    (rw (sym (t .before .before .are-numbers .ensures) ∙ not-false _ (t .before .if1 .left), dataAt) (rw (sym (t .is-timely .ensures) ∙ not-false _ (c .before .if2 .left))))
+    (rw (sym (t .before .are-numbers .ensures) ∙ not-false _ (i .if1 .left), dataAt) (rw (sym (t .is-timely .ensures) ∙ not-false _ (c .before .if2 .left))))
 
 pub data-at-spec : {M : Type 1} → statement M
 data-at-spec =
     tie.close
     (tie.spec
     are-numbers-requires
+    is-timely-requires
     wrong-requires
     returns
-    is-timely-requires
     wrong-requires-2
     returns-2
     past-data-requires

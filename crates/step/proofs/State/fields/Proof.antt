@@ -6,11 +6,6 @@ use Rattle.step.proofs.Laws.{fields-in, fields-inside}
 use borrow.Author.Needs.{needs}
 use Rattle.step.proofs.State.fields.Statement.{statement}
 use Rattle.step.proofs.State.fields.Tie as tie
-use Rattle.step.proofs.State.fields.Reads as reads
-use Rattle.step.proofs.State.fields.Lts as lts
-use Rattle.lines.proofs.fields_of.Reads as fields-of-reads
-use Rattle.step.proofs.State.data.Reads as data-reads
-use Rattle.step.proofs.State.wrong.Reads as wrong-reads
 
 enum-told : tie.Need-enum-told
 enum-told c = search needs

@@ -5,12 +5,6 @@ use Rattle.step.specs.Step.{filledOf}
 use borrow.Author.Needs.{needs}
 use Rattle.step.proofs.State.filled.Statement.{statement}
 use Rattle.step.proofs.State.filled.Tie as tie
-use Rattle.step.proofs.State.filled.Reads as reads
-use Rattle.step.proofs.State.filled.Lts as lts
-use Rattle.lines.proofs.comment_of.Reads as comment-of-reads
-use Rattle.step.proofs.State.one_row.Reads as one-row-reads
-use Rattle.step.proofs.State.past_comment.Reads as past-comment-reads
-use Rattle.step.proofs.State.uncommented.Reads as uncommented-reads
 
 comment-of-requires : tie.Need-comment-of-requires
 comment-of-requires c κs = search needs

@@ -1,14 +1,10 @@
 -- `step::State::is_early` meets its contract.
 -- Assumes nothing.
-use mathlib.Core.Path.{_∙_}
 use borrow.Author.Tests.{le-leb, lt-leb}
 use Rattle.step.specs.Step.{isEarly}
 use borrow.Author.Needs.{needs}
 use Rattle.step.proofs.State.is_early.Statement.{statement}
 use Rattle.step.proofs.State.is_early.Tie as tie
-use Rattle.step.proofs.State.is_early.Reads as reads
-use Rattle.step.proofs.State.is_early.Lts as lts
-use Rattle.epochs.proofs.is_before.Reads as is-before-reads
 
 returns : tie.Need-returns
 unfolding isEarly

@@ -6,9 +6,6 @@ use Rattle.step.specs.Step.{isTimely}
 use borrow.Author.Needs.{needs}
 use Rattle.step.proofs.State.is_timely.Statement.{statement}
 use Rattle.step.proofs.State.is_timely.Tie as tie
-use Rattle.step.proofs.State.is_timely.Reads as reads
-use Rattle.step.proofs.State.is_timely.Lts as lts
-use Rattle.epochs.proofs.is_before.Reads as is-before-reads
 
 is-before-requires : tie.Need-is-before-requires
 is-before-requires c κs = search needs

@@ -6,12 +6,6 @@ use Rattle.step.specs.Step.{metaOf}
 use borrow.Author.Needs.{needs}
 use Rattle.step.proofs.State.meta.Statement.{statement}
 use Rattle.step.proofs.State.meta.Tie as tie
-use Rattle.step.proofs.State.meta.Reads as reads
-use Rattle.step.proofs.State.meta.Lts as lts
-use Rattle.step.proofs.State.fits.Reads as fits-reads
-use Rattle.step.proofs.State.one_row.Reads as one-row-reads
-use Rattle.step.proofs.State.past.Reads as past-reads
-use Rattle.step.proofs.State.wrong.Reads as wrong-reads
 
 fits-requires : tie.Need-fits-requires
 fits-requires c κs = search needs

@@ -11,15 +11,6 @@ use Rattle.step.proofs.Laws.{part-length, word-le, trim-inside, number-
 use borrow.Author.Needs.{needs}
 use Rattle.step.proofs.State.number.Statement.{statement}
 use Rattle.step.proofs.State.number.Tie as tie
-use Rattle.step.proofs.State.number.Reads as reads
-use Rattle.step.proofs.State.number.Lts as lts
-use Rattle.grammar.proofs.unit_right.Reads as unit-right-reads
-use Rattle.lines.proofs.trim.Reads as trim-reads
-use Rattle.step.proofs.State.one_row.Reads as one-row-reads
-use Rattle.step.proofs.State.past.Reads as past-reads
-use Rattle.step.proofs.State.wrong.Reads as wrong-reads
-use Rattle.step.proofs.word_len.Reads as word-len-reads
-use Rattle.values.proofs.is_number.Reads as is-number-reads
 
 sub-value : tie.Need-sub-value
 sub-value c = search needs

@@ -6,9 +6,6 @@ use Rattle.step.proofs.Laws.{comment-in}
 use borrow.Author.Needs.{needs}
 use Rattle.step.proofs.State.past_comment.Statement.{statement}
 use Rattle.step.proofs.State.past_comment.Tie as tie
-use Rattle.step.proofs.State.past_comment.Reads as reads
-use Rattle.step.proofs.State.past_comment.Lts as lts
-use Rattle.step.proofs.State.past.Reads as past-reads
 
 enum-told : tie.Need-enum-told
 enum-told c = search needs

@@ -4,8 +4,6 @@ use borrow.Author.Tests.{eq-eqb, ne-eqb, le-leb, lt-leb}
 use Rattle.step.specs.Step.{pastTime}
 use Rattle.step.proofs.State.past_time.Statement.{statement}
 use Rattle.step.proofs.State.past_time.Tie as tie
-use Rattle.step.proofs.State.past_time.Reads as reads
-use Rattle.step.proofs.State.past_time.Lts as lts
 
 returns : tie.Need-returns
 unfolding pastTime

@@ -1,18 +1,12 @@
 -- `step::State::plain` meets its contract: an `=` makes an assignment.
 -- Assumes nothing.
-use mathlib.Core.Path.{_∙_, sym}
+use mathlib.Core.Path.{_∙_}
 use borrow.Author.Tests.{lt-ltb, le-ltb}
 use Rattle.step.specs.Step.{plainOf}
 use Rattle.step.proofs.Laws.{sides-inside}
 use borrow.Author.Needs.{needs}
 use Rattle.step.proofs.State.plain.Statement.{statement}
 use Rattle.step.proofs.State.plain.Tie as tie
-use Rattle.step.proofs.State.plain.Reads as reads
-use Rattle.step.proofs.State.plain.Lts as lts
-use Rattle.lines.proofs.equals_at.Reads as equals-at-reads
-use Rattle.lines.proofs.sides_of.Reads as sides-of-reads
-use Rattle.step.proofs.State.assign.Reads as assign-reads
-use Rattle.step.proofs.State.fields.Reads as fields-reads
 
 equals-at-requires : tie.Need-equals-at-requires
 equals-at-requires c κs = search needs

@@ -1,19 +1,12 @@
 -- `step::State::step` meets its contract: LONG, BYTE, blank, then the rest.
 -- Assumes nothing.
-use mathlib.Core.Path.{_∙_, sym}
+use mathlib.Core.Path.{_∙_}
 use borrow.Author.Tests.{lt-ltb, le-ltb, eq-eqb, ne-eqb}
 use Rattle.step.specs.Step.{stepOf}
 use Rattle.step.proofs.Laws.{trim-inside}
 use borrow.Author.Needs.{needs}
 use Rattle.step.proofs.State.step.Statement.{statement}
 use Rattle.step.proofs.State.step.Tie as tie
-use Rattle.step.proofs.State.step.Reads as reads
-use Rattle.step.proofs.State.step.Lts as lts
-use Rattle.lines.proofs.odd_at.Reads as odd-at-reads
-use Rattle.lines.proofs.trim.Reads as trim-reads
-use Rattle.step.proofs.State.filled.Reads as filled-reads
-use Rattle.step.proofs.State.no_row.Reads as no-row-reads
-use Rattle.step.proofs.State.wrong.Reads as wrong-reads
 
 wrong-requires : tie.Need-wrong-requires
 wrong-requires c κs = search needs

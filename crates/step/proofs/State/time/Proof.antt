@@ -5,13 +5,6 @@ use Rattle.step.specs.Step.{timeOf}
 use borrow.Author.Needs.{needs}
 use Rattle.step.proofs.State.time.Statement.{statement}
 use Rattle.step.proofs.State.time.Tie as tie
-use Rattle.step.proofs.State.time.Reads as reads
-use Rattle.step.proofs.State.time.Lts as lts
-use Rattle.epochs.proofs.epoch_of.Reads as epoch-of-reads
-use Rattle.step.proofs.State.is_early.Reads as is-early-reads
-use Rattle.step.proofs.State.one_row.Reads as one-row-reads
-use Rattle.step.proofs.State.past_time.Reads as past-time-reads
-use Rattle.step.proofs.State.wrong.Reads as wrong-reads
 
 sub-epoch-of : tie.Need-sub-epoch-of
 sub-epoch-of c = search needs

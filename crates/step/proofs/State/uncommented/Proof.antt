@@ -1,16 +1,11 @@
 -- `step::State::uncommented` meets its contract: a META line, or the rest.
 -- Assumes nothing.
-use mathlib.Core.Path.{_∙_, sym}
+use mathlib.Core.Path.{_∙_}
 use borrow.Author.Tests.{eq-eqb, ne-eqb}
 use Rattle.step.specs.Step.{uncommentedOf}
 use borrow.Author.Needs.{needs}
 use Rattle.step.proofs.State.uncommented.Statement.{statement}
 use Rattle.step.proofs.State.uncommented.Tie as tie
-use Rattle.step.proofs.State.uncommented.Reads as reads
-use Rattle.step.proofs.State.uncommented.Lts as lts
-use Rattle.step.proofs.State.meta.Reads as meta-reads
-use Rattle.step.proofs.State.plain.Reads as plain-reads
-use Rattle.step.proofs.meta_code.Reads as meta-code-reads
 
 sub-meta-code : tie.Need-sub-meta-code
 sub-meta-code c = search needs

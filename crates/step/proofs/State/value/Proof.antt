@@ -5,16 +5,6 @@ use Rattle.step.specs.Step.{valueOf}
 use borrow.Author.Needs.{needs}
 use Rattle.step.proofs.State.value.Statement.{statement}
 use Rattle.step.proofs.State.value.Tie as tie
-use Rattle.step.proofs.State.value.Reads as reads
-use Rattle.step.proofs.State.value.Lts as lts
-use Rattle.grammar.proofs.kind_of.Reads as kind-of-reads
-use Rattle.step.proofs.State.number.Reads as number-reads
-use Rattle.step.proofs.State.time.Reads as time-reads
-use Rattle.step.proofs.State.whole.Reads as whole-reads
-use Rattle.step.proofs.State.wrong.Reads as wrong-reads
-use Rattle.values.proofs.is_integer.Reads as is-integer-reads
-use Rattle.values.proofs.is_text.Reads as is-text-reads
-use Rattle.values.proofs.is_version.Reads as is-version-reads
 
 kind-of-requires : tie.Need-kind-of-requires
 kind-of-requires c κs = search needs

@@ -1,16 +1,11 @@
 -- `step::State::whole` meets its contract.
 -- Assumes nothing.
-use mathlib.Core.Path.{_∙_, ap}
+use mathlib.Core.Path.{_∙_}
 use borrow.Author.Tests.{not-true, not-false}
-use Rattle.step.specs.Step.{wholeOf, oneRow}
+use Rattle.step.specs.Step.{wholeOf}
 use borrow.Author.Needs.{needs}
 use Rattle.step.proofs.State.whole.Statement.{statement}
 use Rattle.step.proofs.State.whole.Tie as tie
-use Rattle.step.proofs.State.whole.Reads as reads
-use Rattle.step.proofs.State.whole.Lts as lts
-use Rattle.step.proofs.State.one_row.Reads as one-row-reads
-use Rattle.step.proofs.State.past.Reads as past-reads
-use Rattle.step.proofs.State.wrong.Reads as wrong-reads
 
 wrong-requires : tie.Need-wrong-requires
 wrong-requires c κs = search needs
