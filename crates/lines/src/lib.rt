@@ -3,7 +3,7 @@ use words::begins_at;
 ghost use mathlib.Core.Path.{_≡_};
 ghost use mathlib.Core.List.{[]};
 ghost use Prim.Native.Nat.{_+_, _≤_, _<_};
-ghost use lib.ListN.{length, take, drop};
+ghost use lib.ListN.{length, drop};
 ghost use Rattle.lines.specs.Feed.{textLen, endWith, endLen, endsOf};
 ghost use Rattle.lines.specs.Text.{blanks, cutEnd, trimOf, oddAt, equalsAt, moved, headingOf, heads, commentOf, wordEnds, sidesOf, fieldMore, fieldThen, gathered, splitOf};
 

@@ -3,7 +3,7 @@ use words::is_word;
 ghost use mathlib.Core.Path.{_≡_};
 ghost use Prim.Native.Nat.{_+_, _-_, _<_, _≤_, _^_};
 ghost use lib.Dec.{leb};
-ghost use lib.ListN.{length, drop};
+ghost use lib.ListN.{length};
 ghost use Rattle.values.specs.Number.{digits, signLen, isDigits, isExponent, endsNumber, afterWhole, isNumber, digitsFrom, integerTop, isInteger, isText, isVersion};
 
 // How many digits stand first.
