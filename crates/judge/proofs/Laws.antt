@@ -26,7 +26,7 @@ use Rattle.judge.specs.declared.Judged.the-variants.{Refused}
 use Rattle.judge.specs.declared.Met.{Met}
 use Rattle.judge.specs.declared.Met.the-variants.{End, Offence, Within}
 use Rattle.judge.specs.declared.Moved.{Moved}
-use Rattle.judge.specs.Message.{isHeading, fromHeading, headings, upTo, texts, endOf, judgeTexts, judgeLines, messageOf, judgeOf, metOf, movedOf, FoundIs}
+use Rattle.judge.specs.Message.{isHeading, formOf, fromHeading, headings, upTo, texts, endOf, judgeTexts, judgeLines, messageOf, judgeOf, metOf, movedOf, foundOf, FoundIs}
 
 -- ---- past the feed's end
 
@@ -84,6 +84,10 @@ module _ (f : List ℕ) (at : ℕ) (e : Ends) (h : at < length f) (q : e ≡ end
   pub from-here : (k : ℕ) → isHeading (lineAt f at e .text) ≡ true → k ≡ 1 → fromHeading k (linesAt at (drop at f)) ≡ linesAt at (drop at f)
   unfolding fromHeading
   from-here k r one = rw (line-left f at e h q) (rw (r, fromHeading) (rw (eq-eqb k 1 one)))
+
+  pub found-here : foundOf (linesAt at (drop at f)) ≡ Place at (formOf (lineAt f at e .text))
+  unfolding foundOf
+  found-here = rw (line-left f at e h q)
 
   pub from-later : (k : ℕ) → isHeading (lineAt f at e .text) ≡ true → (k ≡ 1 → ⊥)
       → fromHeading k (linesAt at (drop at f)) ≡ fromHeading (k - 1) (rest f e)

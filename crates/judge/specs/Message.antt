@@ -110,7 +110,12 @@ unfoldable pub movedOf : State → ℕ → List ℕ → List Line → Moved
 movedOf st at s [] = record { met = End; step = noRow st; next = at }
 movedOf st at s (l ∷ ls) = let x = stepOf st (l .text) in record { met = metOf (x .verdict); step = x; next = at + lineLen s }
 
--- where a message was found: its lines are those from the place on, and its first line is a heading of this type
+-- the place of the first of these lines, and the message type that it opens
+unfoldable pub foundOf : List Line → Found
+foundOf [] = Missing
+foundOf (l ∷ ls) = Place (l .start) (formOf (l .text))
+
+-- what follows from it: the message's lines are those from the place on, and its first line is a heading of this type
 unfoldable pub FoundIs : Found → ℕ → List ℕ → Type 0
 FoundIs (Place p f) k s = (fromHeading k (lines s) ≡ linesAt p (drop p s)) × (p < length s) × (f ≡ formOf (take (textLen (drop p s)) (drop p s)))
 FoundIs Missing k s = fromHeading k (lines s) ≡ []

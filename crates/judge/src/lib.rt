@@ -11,7 +11,7 @@ ghost use Prim.Native.Nat.{_≤_};
 ghost use lib.ListN.{length, drop};
 ghost use Rattle.lines.specs.Feed.{lines, linesAt};
 ghost use Rattle.step.specs.Step.{noRow, freshState};
-ghost use Rattle.judge.specs.Message.{isHeading, formOf, headings, upTo, texts, endOf, judgeTexts, judgeOf, countOf, metOf, movedOf, FoundIs};
+ghost use Rattle.judge.specs.Message.{isHeading, formOf, fromHeading, headings, upTo, texts, endOf, judgeTexts, judgeOf, countOf, metOf, movedOf, foundOf, FoundIs};
 
 // Accepted with its row count, or a reason and a line.
 pub enum Judged {
@@ -77,7 +77,8 @@ fn form_of(text: &[u8]) -> Form
 
 // The place of the heading line with this number, from 1.
 pub fn find_message(feed: &[u8], message: usize) -> Found
-    ensures { λ r. ⌜ FoundIs r message (now (feed .entry)) ⌝ }
+    ensures answer { λ r. ⌜ r ≡ foundOf (fromHeading message (lines (now (feed .entry)))) ⌝ }
+    ensures lines { λ r. ⌜ FoundIs r message (now (feed .entry)) ⌝ }
 {
     if message == 0 {
         return Found::Missing;

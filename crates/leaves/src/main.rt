@@ -7,6 +7,7 @@ use grammar::Kind;
 use grammar::Next;
 use libc::STDIN_FILENO;
 use libc::STDOUT_FILENO;
+use lines::Assignment;
 use lines::Comment;
 use lines::Heading;
 use lines::Span;
@@ -51,10 +52,12 @@ fn say_comment(text: &[u8]) {
 fn say_sides(text: &[u8]) {
     let n = lines::equals_at(text);
     say_number(n as u64);
-    if n < text.len() {
-        let s = lines::sides_of(text, n);
-        say_span(s.keyword);
-        say_span(s.value);
+    match lines::assignment_of(text) {
+        Assignment::Parted(s) => {
+            say_span(s.keyword);
+            say_span(s.value);
+        }
+        Assignment::Other => {}
     }
 }
 

@@ -13,6 +13,8 @@ use Rattle.lines.specs.declared.Heading.{Heading}
 use Rattle.lines.specs.declared.Heading.the-variants.{Opm, Oem, Nothing}
 use Rattle.lines.specs.declared.Comment.{Comment}
 use Rattle.lines.specs.declared.Comment.the-variants.{Value, Other}
+use Rattle.lines.specs.declared.Assignment.{Assignment}
+use Rattle.lines.specs.declared.Assignment.the-variants as Assigns
 
 -- "Blank means byte 32."
 abbrev pub isBlank : ℕ → Bool
@@ -83,6 +85,10 @@ commentOf s =
 -- "Keyword is the text before the first `=`, value field the text after it, both trimmed." n is the place of the `=`.
 unfoldable pub sidesOf : ℕ → List ℕ → Sides
 sidesOf n s = record { keyword = trimOf (take n s); value = moved (n + 1) (trimOf (drop (n + 1) s)) }
+
+-- "Contains `=`: an assignment."
+unfoldable pub assignmentOf : List ℕ → Assignment
+assignmentOf s = elim (ltb (equalsAt s) (length s)) [ true ↦ Assigns.Parted (sidesOf (equalsAt s) s) | false ↦ Assigns.Other ]
 
 -- the field in hand, if there is one, then those after it
 unfoldable pub fieldThen : ℕ → ℕ → List Span → List Span

@@ -5,7 +5,7 @@ ghost use mathlib.Core.List.{[]};
 ghost use Prim.Native.Nat.{_+_, _≤_, _<_};
 ghost use lib.ListN.{length, drop};
 ghost use Rattle.lines.specs.Feed.{textLen, endWith, endLen, endsOf};
-ghost use Rattle.lines.specs.Text.{blanks, cutEnd, trimOf, oddAt, equalsAt, moved, headingOf, heads, commentOf, wordEnds, sidesOf, fieldMore, fieldThen, gathered, splitOf};
+ghost use Rattle.lines.specs.Text.{blanks, cutEnd, trimOf, oddAt, equalsAt, moved, headingOf, heads, commentOf, wordEnds, sidesOf, assignmentOf, fieldMore, fieldThen, gathered, splitOf};
 
 // A part of a text: from one place up to another.
 pub struct Span {
@@ -35,6 +35,12 @@ pub enum Comment {
 pub struct Sides {
     pub keyword: Span,
     pub value: Span,
+}
+
+// An assignment with its two sides, or a text with no `=`.
+pub enum Assignment {
+    Parted(Sides),
+    Other,
 }
 
 // The first seven fields, and how many there are: 8 stands for more than seven.
@@ -235,14 +241,26 @@ pub fn comment_of(text: &[u8]) -> Comment
     Comment::Value(value)
 }
 
-// The two sides of the `=` at `n`, which the caller has found in the text.
-pub fn sides_of(text: &[u8], n: usize) -> Sides
+// The two sides of the `=` at `n`.
+fn sides_of(text: &[u8], n: usize) -> Sides
     requires { ⌜ n < length (now text) ⌝ }
     ensures { λ r. ⌜ r ≡ sidesOf n (now (text .entry)) ⌝ }
 {
     let keyword = trim(&text[..n]);
     let value = trim_from(text, n + 1);
     Sides { keyword, value }
+}
+
+// A text parted at its first `=`.
+pub fn assignment_of(text: &[u8]) -> Assignment
+    ensures { λ r. ⌜ r ≡ assignmentOf (now (text .entry)) ⌝ }
+{
+    let n = equals_at(text);
+    if n < text.len() {
+        let sides = sides_of(text, n);
+        return Assignment::Parted(sides);
+    }
+    Assignment::Other
 }
 
 // One field more: the first seven are kept.

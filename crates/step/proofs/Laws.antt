@@ -9,11 +9,12 @@ use native.Mathlib.Omega.{arith}
 use lib.ListN.{length, getD, set, take, drop, replicate, length-set, length-take, length-drop, drop-of-length-le}
 use lib.Seq.{drop-cons}
 use Rattle.lines.specs.Text.{noSpan}
+use Rattle.lines.specs.declared.Assignment.the-variants as Assigns
 use Rattle.lines.specs.declared.Span.{Span}
 use Rattle.values.specs.Number.{isNumber}
 use lib.Dec.{eqb, ltb}
 use Rattle.words.proofs.Laws.{run-le}
-use Rattle.lines.specs.Text.{isBlank, trimOf, sidesOf, fieldThen, fieldsFrom, fieldsIn, fieldMore, gathered, noFields, splitOf}
+use Rattle.lines.specs.Text.{isBlank, equalsAt, trimOf, sidesOf, assignmentOf, fieldThen, fieldsFrom, fieldsIn, fieldMore, gathered, noFields, splitOf}
 use Rattle.lines.specs.declared.Sides.{Sides}
 use Rattle.lines.specs.declared.Fields.{Fields}
 use borrow.Author.Tests.{ltb-true}
@@ -92,15 +93,24 @@ module _ (st : State) (c : ℕ) (p : Span) (s : List ℕ) (n : ℕ) (k : n ≡ w
 
 -- ---- the sides of an assignment and the fields of a data line lie in their text
 
-pub sides-inside : (s : List ℕ) (n : ℕ) (x : Sides) → n < length s → x ≡ sidesOf n s → Inside (x .keyword) s × Inside (x .value) s
+sides-at : (s : List ℕ) (n : ℕ) (x : Sides) → n < length s → x ≡ sidesOf n s → Inside (x .keyword) s × Inside (x .value) s
 unfolding sidesOf
-sides-inside s n x h e =
+sides-at s n x h e =
     let k = trim-within (take n s) in
     let v = trim-within (drop (n + 1) s) in
     rw e (
       record { order = k .0; end = omega (arith, k .1, length-take n s) },
       record { order = omega (arith, v .0); end = omega (arith, v .1, length-drop (n + 1) s) },
     )
+
+pub sides-inside : (s : List ℕ) (x : Sides) → assignmentOf s ≡ Assigns.Parted x → Inside (x .keyword) s × Inside (x .value) s
+unfolding assignmentOf
+sides-inside s x = go (ltb (equalsAt s) (length s)) refl
+  where
+    go : (t : Bool) → ltb (equalsAt s) (length s) ≡ t → elim t [ true ↦ Assigns.Parted (sidesOf (equalsAt s) s) | false ↦ Assigns.Other ] ≡ Assigns.Parted x
+        → Inside (x .keyword) s × Inside (x .value) s
+    go true q e = sides-at s (equalsAt s) x (ltb-true _ _ q) cc
+    go false q e = let z : _≡_ {A = ℕ} 0 1 = cc in absurd (omega arith)
 
 module _ (s : List ℕ) where
   abbrev All : List Span → Type 0

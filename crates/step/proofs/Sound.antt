@@ -6,11 +6,13 @@ use mathlib.Core.Bool.{Bool, true, false, _&&_, false≢true}
 use Prim.Native.Nat.{ℕ, _+_, _-_, _≤_}
 use native.Mathlib.Omega.{arith}
 use lib.Dec.{eqb, ltb, leb}
-use borrow.Author.Tests.{leb-true, ltb-true}
+use borrow.Author.Tests.{leb-true}
 use lib.ListN.{length, getD, take, drop, length-drop}
 use Rattle.words.specs.Words.{bytes, begins, isWord}
 use Rattle.words.proofs.Laws.{begins-le}
-use Rattle.lines.specs.Text.{blanks, trimOf, moved, commentOf, wordEnds, equalsAt, sidesOf, splitOf, noSpan, isLong, oddAt}
+use Rattle.lines.specs.Text.{blanks, trimOf, moved, commentOf, wordEnds, assignmentOf, splitOf, noSpan, isLong, oddAt}
+use Rattle.lines.specs.declared.Assignment.{Assignment}
+use Rattle.lines.specs.declared.Assignment.the-variants as Assigns
 use Rattle.lines.specs.declared.Span.{Span}
 use Rattle.lines.specs.declared.Sides.{Sides}
 use Rattle.lines.specs.declared.Fields.{Fields}
@@ -190,12 +192,11 @@ module _ (s : List ℕ) where
 
     plain-good : Good s (plainOf st s)
     unfolding plainOf
-    plain-good = go (ltb (equalsAt s) (length s)) refl
+    plain-good = go (assignmentOf s) refl
       where
-        go : (t : Bool) → ltb (equalsAt s) (length s) ≡ t
-            → Good s (elim t [ true ↦ assignOf st (sidesOf (equalsAt s) s) s | false ↦ fieldsOf st s ])
-        go true e = assign-good _ (sides-inside s (equalsAt s) _ (ltb-true _ _ e) refl)
-        go false e = fields-good
+        go : (q : Assignment) → assignmentOf s ≡ q → Good s (elim q [ Assigns.Parted x ↦ assignOf st x s | Assigns.Other ↦ fieldsOf st s ])
+        go (Assigns.Parted x) e = assign-good x (sides-inside s x e)
+        go Assigns.Other e = fields-good
 
     uncommented-good : (t : Span) → Inside t s → Good s (uncommentedOf st t s)
     unfolding uncommentedOf

@@ -7,10 +7,11 @@ use mathlib.Core.Bool.{Bool, true, false, not, _&&_, _||_}
 use lib.Dec.{eqb, ltb}
 use lib.ListN.{length, take, drop, getD}
 use Rattle.words.specs.Words.{bytes, run, isWord}
-use Rattle.lines.specs.Text.{isBlank, isLong, oddAt, equalsAt, trimOf, commentOf, sidesOf, splitOf, noSpan}
+use Rattle.lines.specs.Text.{isBlank, isLong, oddAt, trimOf, commentOf, assignmentOf, splitOf, noSpan}
 use Rattle.lines.specs.declared.Span.{Span}
 use Rattle.lines.specs.declared.Sides.{Sides}
 use Rattle.lines.specs.declared.Fields.{Fields}
+use Rattle.lines.specs.declared.Assignment.the-variants as Assigns
 use Rattle.lines.specs.declared.Comment.the-variants.{Value as CommentValue, Other}
 use Rattle.values.specs.Number.{isNumber, isInteger, isText, isVersion}
 use Rattle.epochs.specs.Epoch.{epochOf, isBefore}
@@ -209,8 +210,7 @@ metaOf st c n =
 
 -- "Contains `=`: an assignment."
 unfoldable pub plainOf : State → List ℕ → Step
-plainOf st s =
-    elim (ltb (equalsAt s) (length s)) [ true ↦ assignOf st (sidesOf (equalsAt s) s) s | false ↦ fieldsOf st s ]
+plainOf st s = elim (assignmentOf s) [ Assigns.Parted x ↦ assignOf st x s | Assigns.Other ↦ fieldsOf st s ]
 
 -- a comment that follows a data line is noted, by the code 45; any other changes nothing
 unfoldable pub pastComment : State → State

@@ -6,6 +6,7 @@ use epochs::is_before;
 use grammar::Form;
 use grammar::Keyword;
 use grammar::Kind;
+use lines::Assignment;
 use lines::Comment;
 use lines::Fields;
 use lines::Sides;
@@ -435,11 +436,10 @@ impl State {
     fn plain(self, text: &[u8]) -> Step
         ensures { λ r. ⌜ r ≡ plainOf self (now (text .entry)) ⌝ }
     {
-        let n = lines::equals_at(text);
-        if n < text.len() {
-            return self.assign(lines::sides_of(text, n), text);
+        match lines::assignment_of(text) {
+            Assignment::Parted(x) => self.assign(x, text),
+            Assignment::Other => self.fields(text),
         }
-        self.fields(text)
     }
 
     // A comment that follows a data line is noted.

@@ -32,7 +32,7 @@ fill-requires : tie.Need-fill-requires
 fill-requires c κs =
     let b = c .before .before .before .before in
     let r = right (b .before .before) in
-    found-fillable _ _ _ (r .0) _ _ (rw (c .before .before .at .given .1) at (b .find-message .ensures)) _ (r .1)
+    found-fillable _ _ _ (r .0) _ _ (rw (c .before .before .at .given .1) at (b .find-message .ensures .1)) _ (r .1)
 
 enum-told-2 : tie.Need-enum-told-2
 enum-told-2 c = search needs
@@ -49,13 +49,13 @@ returns-2 c =
     let b = c .before .before .before .before .before .before .before in
     let a = b .before .before in
     let r = right a in
-    let q = found-rows _ _ _ (r .0) _ _ (rw (c .before .before .before .before .before .at .given .1) at (b .find-message .ensures)) in
+    let q = found-rows _ _ _ (r .0) _ _ (rw (c .before .before .before .before .before .at .given .1) at (b .find-message .ensures .1)) in
     rw (a .answer .given .1) (c .before .before .fill .ensures ∙ table-filled _ _ _ _ _ (r .0) (r .1) q)
 
 returns-3 : tie.Need-returns-3
 returns-3 c =
     let b = c .before .before in
-    absurd (not-missing _ _ _ (right (b .before .before) .0) (rw (c .enum-told2 .given .1) at (b .find-message .ensures)))
+    absurd (not-missing _ _ _ (right (b .before .before) .0) (rw (c .enum-told2 .given .1) at (b .find-message .ensures .1)))
 
 pub fill-message-spec : {M : Type 1} → statement M
 fill-message-spec =

@@ -6,8 +6,8 @@ use native.Mathlib.Omega.{arith}
 use lib.ListN.{length, drop}
 use Rattle.lines.specs.Feed.{lines, linesAt}
 use Rattle.lines.proofs.Lists.{Placed, placed}
-use Rattle.judge.specs.Message.{fromHeading, formOf, FoundIs}
-use Rattle.judge.proofs.Laws.{text-left, over-from, from-none, from-here, from-later, from-passed}
+use Rattle.judge.specs.Message.{fromHeading, formOf, foundOf, FoundIs}
+use Rattle.judge.proofs.Laws.{text-left, found-here, over-from, from-none, from-here, from-later, from-passed}
 use Rattle.judge.proofs.find_message.Statement.{statement}
 use Rattle.judge.proofs.find_message.Tie as tie
 
@@ -22,8 +22,10 @@ here : (c : tie.After-line-at Inv-loop μ-loop) → Placed (c .before .before .b
 here c = placed _ _ _ (c .before .loop-test .taken) (c .line-at .ensures)
 
 returns : tie.Need-returns Inv-loop μ-loop
-unfolding FoundIs
-returns c = rw (c .if1 .taken) (from-none _)
+unfolding FoundIs foundOf
+returns c =
+    let e = from-none (lines (c .before .before .args .feed .now)) in
+    (rw (c .if1 .taken) (rw e), rw (c .if1 .taken) e)
 
 loop-holds : tie.Need-loop-holds Inv-loop μ-loop
 loop-holds c = (refl, omega arith, omega arith)
@@ -50,11 +52,12 @@ returns-2 : tie.Need-returns-2 Inv-loop μ-loop
 unfolding FoundIs
 returns-2 c =
     let b = c .before .before .before .before .before in
-    let t = b .before .loop-test .taken in (
-      b .before .before .loop .inv .0 ∙ from-here _ _ _ t (b .line-at .ensures) _
-          (sym (c .before .before .before .is-heading .ensures) ∙ c .before .before .if2 .taken) (c .before .if3 .taken),
-      t,
-      c .form-of .ensures ∙ ap formOf (text-left _ _ _ (b .line-at .ensures)),
+    let t = b .before .loop-test .taken in
+    let e =
+    b .before .before .loop .inv .0 ∙ from-here _ _ _ t (b .line-at .ensures) _
+    (sym (c .before .before .before .is-heading .ensures) ∙ c .before .before .if2 .taken) (c .before .if3 .taken) in (
+      rw (c .form-of .ensures, e) (sym (found-here _ _ _ t (b .line-at .ensures))),
+      (e, t, c .form-of .ensures ∙ ap formOf (text-left _ _ _ (b .line-at .ensures))),
     )
 
 sub-left : tie.Need-sub-left Inv-loop μ-loop
@@ -85,8 +88,8 @@ loop-again-2 c =
     )
 
 returns-3 : tie.Need-returns-3 Inv-loop μ-loop
-unfolding FoundIs
-returns-3 c = c .before .loop .inv .0 ∙ over-from _ _ (c .loop-test .left) _
+unfolding FoundIs foundOf
+returns-3 c = let e = c .before .loop .inv .0 ∙ over-from _ _ (c .loop-test .left) _ in (rw e, e)
 
 pub find-message-spec : {M : Type 1} → statement M
 find-message-spec =

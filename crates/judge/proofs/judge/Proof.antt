@@ -25,12 +25,12 @@ returns-2 : tie.Need-returns-2
 returns-2 c =
     let b = c .before .before .before .before in
     let w = c .before .before .at .given .1 in
-    c .judge-from .ensures ∙ sym (judge-found _ _ (b .before .if1 .left) _ _ (rw w at (b .find-message .ensures)))
+    c .judge-from .ensures ∙ sym (judge-found _ _ (b .before .if1 .left) _ _ (rw w at (b .find-message .ensures .1)))
 
 returns-3 : tie.Need-returns-3
 returns-3 c =
     let b = c .before .before in
-    sym (judge-missing _ _ (b .before .if1 .left) (rw (c .enum-told .given .1) at (b .find-message .ensures)))
+    sym (judge-missing _ _ (b .before .if1 .left) (rw (c .enum-told .given .1) at (b .find-message .ensures .1)))
 
 pub judge-spec : {M : Type 1} → statement M
 judge-spec =
