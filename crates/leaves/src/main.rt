@@ -50,7 +50,7 @@ fn say_comment(text: &[u8]) {
 }
 
 fn say_sides(text: &[u8]) {
-    let n = lines::equals_at(text);
+    let n = words::byte_at(text, 61);
     say_number(n as u64);
     match lines::assignment_of(text) {
         Assignment::Parted(s) => {

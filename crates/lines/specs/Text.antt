@@ -5,7 +5,7 @@ use mathlib.Core.List.{List, [], _∷_}
 use mathlib.Core.Bool.{Bool, true, false, not, _&&_, _||_}
 use lib.Dec.{eqb, ltb}
 use lib.ListN.{length, take, drop, set}
-use Rattle.words.specs.Words.{bytes, begins, run}
+use Rattle.words.specs.Words.{bytes, begins, run, firstAt}
 use Rattle.lines.specs.declared.Span.{Span}
 use Rattle.lines.specs.declared.Sides.{Sides}
 use Rattle.lines.specs.declared.Fields.{Fields}
@@ -51,7 +51,7 @@ oddAt s = run (λ b. not (isOdd b)) s
 
 -- the place of the first `=`, or the length where there is none
 abbrev pub equalsAt : List ℕ → ℕ
-equalsAt s = run (λ b. not (eqb b 61)) s
+equalsAt s = firstAt 61 s
 
 -- "any number of blanks, then [the word], any number of blanks, then `=`. Nothing else about the line matters to this test"
 unfoldable pub heads : List ℕ → List ℕ → Bool

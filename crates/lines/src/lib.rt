@@ -1,11 +1,12 @@
 // A feed's lines and what a line's text is made of. Every function answers for any bytes.
 use words::begins_at;
+use words::byte_at;
 ghost use mathlib.Core.Path.{_≡_};
 ghost use mathlib.Core.List.{[]};
 ghost use Prim.Native.Nat.{_+_, _≤_, _<_};
 ghost use lib.ListN.{length, drop};
 ghost use Rattle.lines.specs.Feed.{textLen, endWith, endLen, endsOf};
-ghost use Rattle.lines.specs.Text.{blanks, cutEnd, trimOf, oddAt, equalsAt, moved, headingOf, heads, commentOf, wordEnds, sidesOf, assignmentOf, fieldMore, fieldThen, gathered, splitOf};
+ghost use Rattle.lines.specs.Text.{blanks, cutEnd, trimOf, oddAt, moved, headingOf, heads, commentOf, wordEnds, sidesOf, assignmentOf, fieldMore, fieldThen, gathered, splitOf};
 
 // A part of a text: from one place up to another.
 pub struct Span {
@@ -165,20 +166,6 @@ pub fn odd_at(text: &[u8]) -> usize
     at
 }
 
-// The first `=`, or the text's length where there is none.
-pub fn equals_at(text: &[u8]) -> usize
-    ensures { λ r. ⌜ r ≡ equalsAt (now (text .entry)) ⌝ }
-{
-    let mut at = 0;
-    while at < text.len() {
-        if text[at] == 61 {
-            return at;
-        }
-        at += 1;
-    }
-    at
-}
-
 // A heading line of this word.
 fn heads_with(text: &[u8], word: &[u8]) -> bool
     ensures { λ r. ⌜ r ≡ heads (now (word .entry)) (now (text .entry)) ⌝ }
@@ -255,7 +242,7 @@ fn sides_of(text: &[u8], n: usize) -> Sides
 pub fn assignment_of(text: &[u8]) -> Assignment
     ensures { λ r. ⌜ r ≡ assignmentOf (now (text .entry)) ⌝ }
 {
-    let n = equals_at(text);
+    let n = byte_at(text, 61);
     if n < text.len() {
         let sides = sides_of(text, n);
         return Assignment::Parted(sides);

@@ -6,8 +6,8 @@ use mathlib.Core.List.{List, [], _∷_}
 use mathlib.Core.Bool.{Bool, true, false, not, _&&_, _||_}
 use lib.Dec.{eqb, ltb}
 use lib.ListN.{length, take, drop, getD}
-use Rattle.words.specs.Words.{bytes, run, isWord}
-use Rattle.lines.specs.Text.{isBlank, isLong, oddAt, trimOf, commentOf, assignmentOf, splitOf, noSpan}
+use Rattle.words.specs.Words.{bytes, firstAt, isWord}
+use Rattle.lines.specs.Text.{isLong, oddAt, trimOf, commentOf, assignmentOf, splitOf, noSpan}
 use Rattle.lines.specs.declared.Span.{Span}
 use Rattle.lines.specs.declared.Sides.{Sides}
 use Rattle.lines.specs.declared.Fields.{Fields}
@@ -136,7 +136,7 @@ wholeOf st c p right = elim right [ false ↦ wrong st Reasons.Value | true ↦ 
 
 -- how many bytes stand before the first blank
 abbrev pub wordLen : List ℕ → ℕ
-wordLen s = run (λ b. not (isBlank b)) s
+wordLen s = firstAt 32 s
 
 -- "In an assignment a number runs to the first blank. What follows, trimmed, is empty or exactly the unit in brackets, else UNIT"
 unfoldable pub numberOf : State → ℕ → Span → List ℕ → Step

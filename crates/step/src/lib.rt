@@ -11,11 +11,12 @@ use lines::Comment;
 use lines::Fields;
 use lines::Sides;
 use lines::Span;
+use words::byte_at;
 use words::is_word;
 ghost use mathlib.Core.Path.{_≡_};
 ghost use lib.ListN.{drop};
 ghost use Rattle.step.specs.Reasons.{reasonNo};
-ghost use Rattle.step.specs.Step.{wrong, noRow, oneRow, freshState, past, fitsHere, Inside, SevenInside, isTimely, areNumbers, pastData, dataAt, dataOf, fieldsOf, wholeOf, wordLen, numberOf, pastTime, isEarly, timeOf, valueOf, assignOf, metaCode, metaOf, plainOf, pastComment, uncommentedOf, filledOf, stepOf};
+ghost use Rattle.step.specs.Step.{wrong, noRow, oneRow, freshState, past, fitsHere, Inside, SevenInside, isTimely, areNumbers, pastData, dataAt, dataOf, fieldsOf, wholeOf, numberOf, pastTime, isEarly, timeOf, valueOf, assignOf, metaCode, metaOf, plainOf, pastComment, uncommentedOf, filledOf, stepOf};
 
 // Why a load or a ticket is refused, in the order of document 01's numbers.
 pub enum Reason {
@@ -83,20 +84,6 @@ pub fn reason_number(reason: Reason) -> u32
         Reason::NoRow => 15,
         Reason::Astray => 16,
     }
-}
-
-// What stands before the first blank.
-fn word_len(text: &[u8]) -> usize
-    ensures { λ r. ⌜ r ≡ wordLen (now (text .entry)) ⌝ }
-{
-    let mut i = 0;
-    while i < text.len() {
-        if text[i] == 32 {
-            return i;
-        }
-        i += 1;
-    }
-    i
 }
 
 // The code of a META line, 0 where the text is none.
@@ -317,7 +304,7 @@ impl State {
         let from = p.from;
         let to = p.to;
         let value = &text[from..to];
-        let n = word_len(value);
+        let n = byte_at(value, 32);
         if !values::is_number(&value[..n]) {
             return self.wrong(Reason::Value);
         }

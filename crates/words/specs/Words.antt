@@ -4,7 +4,7 @@ use Prim.Native.Nat.{ℕ, _+_}
 use Prim.Native.Char.{code}
 use Prim.Native.String.{String}
 use mathlib.Core.List.{List, [], _∷_}
-use mathlib.Core.Bool.{Bool, true, false, _&&_}
+use mathlib.Core.Bool.{Bool, true, false, not, _&&_}
 use lib.Dec.{eqb, leb}
 use lib.ListN.{length}
 
@@ -27,6 +27,10 @@ begins w s = agrees (λ a b. eqb b a) w s
 unfoldable pub run : (ℕ → Bool) → List ℕ → ℕ
 run p [] = 0
 run p (b ∷ s) = elim (p b) [ true ↦ run p s + 1 | false ↦ 0 ]
+
+-- the first place of a byte, or the length where it is not there
+abbrev pub firstAt : ℕ → List ℕ → ℕ
+firstAt c s = run (λ b. not (eqb b c)) s
 
 -- the text is the word
 unfoldable pub isWord : List ℕ → List ℕ → Bool

@@ -1,7 +1,7 @@
-// Bytes held against a word.
+// Bytes held against a word or a byte.
 ghost use mathlib.Core.Path.{_≡_};
 ghost use lib.ListN.{drop};
-ghost use Rattle.words.specs.Words.{begins, isWord};
+ghost use Rattle.words.specs.Words.{begins, firstAt, isWord};
 
 // The text begins with the word.
 pub fn begins_with(text: &[u8], word: &[u8]) -> bool
@@ -38,4 +38,18 @@ pub fn is_word(text: &[u8], word: &[u8]) -> bool
         return false;
     }
     begins_with(text, word)
+}
+
+// The first place of the byte, or the text's length where it is not there.
+pub fn byte_at(text: &[u8], byte: u8) -> usize
+    ensures { λ r. ⌜ r ≡ firstAt byte (now (text .entry)) ⌝ }
+{
+    let mut at = 0;
+    while at < text.len() {
+        if text[at] == byte {
+            return at;
+        }
+        at += 1;
+    }
+    at
 }

@@ -21,14 +21,14 @@ part-value-start c = search needs
 part-value-end : tie.Need-part-value-end
 part-value-end c = search needs
 
-word-len-requires : tie.Need-word-len-requires
-word-len-requires c κs = search needs
+byte-at-requires : tie.Need-byte-at-requires
+byte-at-requires c κs = search needs
 
 slice-aggregate-is-number : tie.Need-slice-aggregate-is-number
 slice-aggregate-is-number c =
     let a = c .before .before .before .before .args in
     let v = part (a .p) (a .text .now) in
-    omega (arith, c .before .word-len .ensures, word-le v, length-take (c .before .word-len .result) v)
+    omega (arith, c .before .byte-at .ensures, word-le v, length-take (c .before .byte-at .result) v)
 
 is-number-requires : tie.Need-is-number-requires
 is-number-requires c κs = search needs
@@ -39,10 +39,10 @@ wrong-requires c κs = search needs
 returns : tie.Need-returns
 returns c =
     let n = c .before .before in
-    c .wrong .ensures ∙ sym (number-bad _ _ _ _ _ (n .before .before .word-len .ensures) (sym (n .is-number .ensures) ∙ not-true _ (c .before .if1 .taken)))
+    c .wrong .ensures ∙ sym (number-bad _ _ _ _ _ (n .before .before .byte-at .ensures) (sym (n .is-number .ensures) ∙ not-true _ (c .before .if1 .taken)))
 
-rest-fits : (c : tie.Else1) → c .before .before .before .word-len .result ≤ length (part (c .before .before .before .before .before .before .args .p) (c .before .before .before .before .before .before .args .text .now))
-rest-fits c = omega (arith, c .before .before .before .word-len .ensures, word-le (part (c .before .before .before .before .before .before .args .p) (c .before .before .before .before .before .before .args .text .now)))
+rest-fits : (c : tie.Else1) → c .before .before .before .byte-at .result ≤ length (part (c .before .before .before .before .before .before .args .p) (c .before .before .before .before .before .before .args .text .now))
+rest-fits c = omega (arith, c .before .before .before .byte-at .ensures, word-le (part (c .before .before .before .before .before .before .args .p) (c .before .before .before .before .before .before .args .text .now)))
 
 sub-rest : tie.Need-sub-rest
 sub-rest c = rest-fits c
@@ -79,7 +79,7 @@ returns-2 c =
     let w = n .before .before in
     let a = w .before .before .before .args in
     c .wrong2 .ensures
-    ∙ sym (number-unit _ _ _ _ _ (w .word-len .ensures) _ _ (part-from (part (a .p) (a .text .now)) (w .word-len .result)) (t .trim .ensures) (sym (n .is-number .ensures) ∙ not-false _ (t .before .before .if1 .left)) (sym (u .unit-right .ensures) ∙ not-true _ (c .before .if2 .taken)))
+    ∙ sym (number-unit _ _ _ _ _ (w .byte-at .ensures) _ _ (part-from (part (a .p) (a .text .now)) (w .byte-at .result)) (t .trim .ensures) (sym (n .is-number .ensures) ∙ not-false _ (t .before .before .if1 .left)) (sym (u .unit-right .ensures) ∙ not-true _ (c .before .if2 .taken)))
 
 past-requires : tie.Need-past-requires
 past-requires c κs = search needs
@@ -88,7 +88,7 @@ add-t14 : tie.Need-add-t14
 add-t14 c =
     let w = c .before .before .before .before .before .before .before .before .before in
     let a = w .before .before .before in
-    omega (arith, w .word-len .ensures, word-le (part (a .args .p) (a .args .text .now)), part-length (a .args .p) (a .args .text .now) (a .pre), a .pre .end)
+    omega (arith, w .byte-at .ensures, word-le (part (a .args .p) (a .args .text .now)), part-length (a .args .p) (a .args .text .now) (a .pre), a .pre .end)
 
 one-row-requires : tie.Need-one-row-requires
 one-row-requires c κs = search needs
@@ -102,7 +102,7 @@ returns-3 c =
     let a = w .before .before .before .args in
     c .one-row .ensures
     ∙ rw (c .before .past .ensures)
-    (sym (number-right _ _ _ _ _ (w .word-len .ensures) _ _ (part-from (part (a .p) (a .text .now)) (w .word-len .result)) (t .trim .ensures) (sym (n .is-number .ensures) ∙ not-false _ (t .before .before .if1 .left)) (sym (u .unit-right .ensures) ∙ not-false _ (c .before .before .if2 .left))))
+    (sym (number-right _ _ _ _ _ (w .byte-at .ensures) _ _ (part-from (part (a .p) (a .text .now)) (w .byte-at .result)) (t .trim .ensures) (sym (n .is-number .ensures) ∙ not-false _ (t .before .before .if1 .left)) (sym (u .unit-right .ensures) ∙ not-false _ (c .before .before .if2 .left))))
 
 pub number-spec : {M : Type 1} → statement M
 number-spec =
@@ -111,7 +111,7 @@ number-spec =
     sub-value
     part-value-start
     part-value-end
-    word-len-requires
+    byte-at-requires
     slice-aggregate-is-number
     is-number-requires
     wrong-requires

@@ -1,20 +1,20 @@
--- `step::word_len` meets its contract: a walk along the bytes that are no blank.
+-- `words::byte_at` meets its contract: a walk along the bytes before the first such byte.
 -- Assumes nothing.
 use Prim.Native.Nat.{_+_, _-_}
 use mathlib.Core.Path.{_≡_}
 use native.Mathlib.Omega.{arith}
 use lib.ListN.{length, drop}
 use Rattle.words.proofs.Laws.{walk-more, walk-stop, walk-end}
 use borrow.Author.Tests.{eq-eqb, ne-eqb}
-use Rattle.step.specs.Step.{wordLen}
-use Rattle.step.proofs.word_len.Statement.{statement}
-use Rattle.step.proofs.word_len.Tie as tie
+use Rattle.words.specs.Words.{firstAt}
+use Rattle.words.proofs.byte_at.Statement.{statement}
+use Rattle.words.proofs.byte_at.Tie as tie
 
 abbrev Inv-loop : tie.InvT-loop
-Inv-loop text i₀ i = wordLen text ≡ i + wordLen (drop i text)
+Inv-loop text byte at₀ at = firstAt byte text ≡ at + firstAt byte (drop at text)
 
 abbrev μ-loop : tie.MeasureT-loop
-μ-loop text i₀ i = length text - i
+μ-loop text byte at₀ at = length text - at
 
 loop-holds : tie.Need-loop-holds Inv-loop μ-loop
 loop-holds c = omega arith
@@ -27,8 +27,8 @@ returns c =
     let l = c .before .before in
     walk-stop _ _ _ _ (l .before .loop .inv) (l .loop-test .taken) (simp (eq-eqb _ _ (c .if1 .taken)))
 
-add-i : tie.Need-add-i Inv-loop μ-loop
-add-i c = omega arith
+add-at : tie.Need-add-at Inv-loop μ-loop
+add-at c = omega arith
 
 loop-less : tie.Need-loop-less Inv-loop μ-loop
 loop-less c = omega arith
@@ -41,8 +41,8 @@ loop-again c =
 returns-2 : tie.Need-returns-2 Inv-loop μ-loop
 returns-2 c = walk-end _ _ _ _ (c .before .loop .inv) (c .loop-test .left)
 
-pub word-len-spec : {M : Type 1} → statement M
-word-len-spec =
+pub byte-at-spec : {M : Type 1} → statement M
+byte-at-spec =
     tie.close
     (tie.spec
     Inv-loop
@@ -50,7 +50,7 @@ word-len-spec =
     loop-holds
     shared-slice-read-if1
     returns
-    add-i
+    add-at
     loop-less
     loop-again
     returns-2)
