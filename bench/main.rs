@@ -122,14 +122,21 @@ fn main() {
         println!("  against a bare scan for line ends: {:.2}", times[0] / times[2]);
     }
     println!("growth from 4 KB, per byte, doubling:");
-    let base = per_byte(4 * 1024);
-    for doubling in 0..5 {
-        let length = (4 * 1024) << doubling;
-        println!("  {} bytes: {:.2}", length, per_byte(length.min(65_535)) / base);
+    let feeds: Vec<Vec<u8>> = (0..5).map(|doubling| ephemeris(((4 * 1024) << doubling).min(65_535))).collect();
+    let times = growth(&feeds, 61);
+    for (feed, time) in feeds.iter().zip(&times) {
+        println!("  {} bytes: {:.2}", feed.len(), time / times[0]);
     }
 }
 
-fn per_byte(length: usize) -> f64 {
-    let feed = ephemeris(length);
-    measure(&feed, &[1], &[product], 31, 1 + 1_000_000 / length)[0] / feed.len() as f64
+/// Seconds a byte of each feed, the median of rounds in which each feed takes its turn, so that a machine that slows down slows all alike.
+fn growth(feeds: &[Vec<u8>], rounds: usize) -> Vec<f64> {
+    let mut times = vec![Vec::new(); feeds.len()];
+    for _ in 0..rounds {
+        for (at, feed) in feeds.iter().enumerate() {
+            let calls = 1 + 500_000 / feed.len();
+            times[at].push(measure(feed, &[1], &[product], 1, calls)[0] / feed.len() as f64);
+        }
+    }
+    times.into_iter().map(median).collect()
 }
