@@ -16,8 +16,9 @@ use Rattle.step.specs.declared.State.{State}
 use Rattle.judge.specs.Message.{isHeading, formOf, fromHeading, headings, upTo, messageOf, texts, judgeTexts, judgeLines, feedLimit, judgeOf, groupOf, rowsAt, rowsFrom, rowsLines, rowsOf}
 use Rattle.judge.specs.declared.Judged.{Judged}
 use Rattle.judge.specs.declared.Judged.the-variants.{Accepted, Refused}
-use Rattle.desk.specs.Table.{tableBytes}
-use Rattle.desk.specs.Loads.{topLoad, roomFor, deskAfter, loadOf, loadTable}
+use Rattle.rows.specs.Table.{tableBytes}
+use Rattle.desk.specs.Loads.{topLoad, deskAfter, loadOf, loadTable}
+use Rattle.rows.specs.Place.{roomFor}
 use Rattle.desk.specs.declared.Desk.{Desk}
 use Rattle.demands.proofs.Loads.{answer-free, desk-free, load-judges}
 use Rattle.judge.specs.declared.Row.{Row}

@@ -12,7 +12,8 @@ use Rattle.step.specs.declared.Reason.the-variants as Reasons
 use Rattle.judge.specs.Message.{judgeOf}
 use Rattle.judge.specs.declared.Judged.{Judged}
 use Rattle.judge.specs.declared.Judged.the-variants.{Accepted, Refused}
-use Rattle.desk.specs.Loads.{topLoad, roomFor, deskAfter, loadOf, tableAfter}
+use Rattle.desk.specs.Loads.{topLoad, deskAfter, loadOf}
+use Rattle.rows.specs.Place.{roomFor, tableAfter}
 use Rattle.desk.specs.declared.Desk.{Desk}
 use Rattle.desk.specs.declared.Loaded.{Loaded}
 use Rattle.desk.proofs.Reading.{read-gone}

@@ -16,7 +16,8 @@ use Rattle.grammar.specs.Keywords.{keywords, codeIn, keywordOf, isUnit}
 use Rattle.grammar.specs.Order.{nextOf, allows}
 use Rattle.step.specs.Step.{isTimely, areNumbers, dataAt, dataOf, fieldsOf, wholeOf, numberOf, pastTime, isEarly, timeOf, valueOf, assignOf, metaCode, metaOf, plainOf, pastComment, uncommentedOf, filledOf, stepOf}
 use Rattle.judge.specs.Message.{fromHeading, upTo, messageOf, endOf, judgeTexts, judgeLines, judgeOf, groupOf, rowsAt, rowsFrom, rowsLines}
-use Rattle.desk.specs.Loads.{roomFor, deskAfter, loadOf}
+use Rattle.desk.specs.Loads.{deskAfter, loadOf}
+use Rattle.rows.specs.Place.{roomFor}
 use Rattle.demands.specs.Marked.{Marked}
 use Rattle.demands.specs.Healing.{Met}
 

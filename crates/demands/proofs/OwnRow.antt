@@ -12,13 +12,15 @@ use Rattle.step.specs.declared.Reason.the-variants as Reasons
 use Rattle.judge.specs.Message.{feedLimit, judgeOf, judgeLines, messageOf, rowsOf}
 use Rattle.judge.specs.declared.Judged.{Judged}
 use Rattle.judge.specs.declared.Judged.the-variants.{Accepted, Refused}
-use Rattle.desk.specs.Table.{tableBytes, rowAt}
-use Rattle.desk.specs.Loads.{topLoad, nextDesk, roomFor, loadOf, readOf, partHeard}
+use Rattle.rows.specs.Table.{tableBytes, rowAt}
+use Rattle.desk.specs.Loads.{topLoad, nextDesk, loadOf, readOf, partHeard}
+use Rattle.rows.specs.Place.{roomFor}
 use Rattle.desk.specs.declared.Desk.{Desk}
-use Rattle.desk.specs.declared.Heard.the-variants.{Spoken}
-use Rattle.desk.proofs.Reading.{read-row, span-in}
-use Rattle.desk.proofs.Fills.{rows-count}
-use Rattle.desk.proofs.Tables.{table-length, row-back}
+use Rattle.rows.specs.declared.Heard.the-variants.{Spoken}
+use Rattle.desk.proofs.Reading.{read-row}
+use Rattle.rows.proofs.Hearing.{span-in}
+use Rattle.rows.proofs.Fills.{rows-count}
+use Rattle.rows.proofs.Tables.{table-length, row-back}
 use Rattle.demands.specs.Loads.{ticket, noRow, OwnRow}
 use Rattle.demands.proofs.Loads.{answer-free, load-judges}
 use Rattle.demands.proofs.Rows.{Held, at-every, all-held, all-small}

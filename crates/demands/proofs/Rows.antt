@@ -21,8 +21,8 @@ use Rattle.step.specs.declared.Step.{Step}
 use Rattle.step.proofs.Sound.{Good, offence, none, one, seven, step-good}
 use Rattle.judge.specs.Message.{isHeading, formOf, fromHeading, upTo, messageOf, groupOf, rowsAt, rowsFrom, rowsLines, rowsOf}
 use Rattle.judge.specs.declared.Row.{Row}
-use Rattle.desk.proofs.Fills.{group-le}
-use Rattle.desk.proofs.Tables.{Fit, Small}
+use Rattle.rows.proofs.Fills.{group-le}
+use Rattle.rows.proofs.Tables.{Fit, Small}
 
 -- a row whose numbers are small and whose span lies in a feed of n bytes
 pub record Held (n : ℕ) (r : Row) : Type 0 where

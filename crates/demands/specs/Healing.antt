@@ -10,7 +10,7 @@ use Rattle.words.specs.Words.{bytes}
 use Rattle.step.specs.declared.Reason.the-variants as Reasons
 use Rattle.judge.specs.declared.Judged.the-variants.{Accepted, Refused}
 use Rattle.judge.specs.declared.Row.{Row}
-use Rattle.desk.specs.Table.{tableBytes}
+use Rattle.rows.specs.Table.{tableBytes}
 use Rattle.desk.specs.Loads.{topLoad, loadOf, loadTable}
 use Rattle.desk.specs.declared.Desk.{Desk}
 use Rattle.demands.specs.Marked.{feedInFull}

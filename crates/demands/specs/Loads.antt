@@ -9,11 +9,12 @@ use Rattle.step.specs.declared.Reason.the-variants as Reasons
 use Rattle.judge.specs.Message.{judgeOf, rowsOf}
 use Rattle.judge.specs.declared.Judged.the-variants.{Accepted, Refused}
 use Rattle.judge.specs.declared.Row.{Row}
-use Rattle.desk.specs.Table.{tableBytes}
-use Rattle.desk.specs.Loads.{topLoad, nextDesk, roomFor, loadOf, loadTable, readOf, partHeard}
+use Rattle.rows.specs.Table.{tableBytes}
+use Rattle.desk.specs.Loads.{topLoad, nextDesk, loadOf, loadTable, readOf, partHeard}
+use Rattle.rows.specs.Place.{roomFor}
 use Rattle.desk.specs.declared.Desk.{Desk}
 use Rattle.desk.specs.declared.Ticket.{Ticket}
-use Rattle.desk.specs.declared.Heard.the-variants.{Spoken, Silent}
+use Rattle.rows.specs.declared.Heard.the-variants.{Spoken, Silent}
 
 abbrev pub ticket : ℕ → ℕ → Ticket
 ticket l n = record { load = record { 0 = l }; row = record { 0 = n } }

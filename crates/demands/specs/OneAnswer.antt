@@ -11,7 +11,7 @@ use Rattle.desk.specs.Loads.{loadOf, loadTable, readOf, partHeard}
 use Rattle.desk.specs.declared.Desk.{Desk}
 use Rattle.desk.specs.declared.Ticket.{Ticket}
 use Rattle.desk.specs.declared.Loaded.{Loaded}
-use Rattle.desk.specs.declared.Heard.{Heard}
+use Rattle.rows.specs.declared.Heard.{Heard}
 
 -- two answers that meet a promise are the same
 abbrev pub One : {A : Type 0} → (A → Type 0) → Type 0

@@ -1,3 +1,1 @@
-pub mod Fills
 pub mod Reading
-pub mod Tables

@@ -1,36 +1,34 @@
--- Laws of what a ticket hears, one a case, and that the span of a row that is spoken lies in the feed.
+-- Laws of a load's answer and of what a ticket hears, one a case.
 -- Assumes nothing.
-use mathlib.Core.Path.{_≡_, refl}
+use mathlib.Core.Path.{_≡_}
 use mathlib.Core.List.{List}
 use mathlib.Core.Bool.{Bool, true, false}
-use Prim.Native.Nat.{ℕ, _+_, _*_, _≤_, _<_}
+use Prim.Native.Nat.{ℕ, _+_, _≤_, _<_}
 use lib.Dec.{eqb, ltb}
 use lib.ListN.{length}
-use borrow.Author.Tests.{eq-eqb, ne-eqb, lt-ltb, le-ltb, ltb-false}
+use borrow.Author.Tests.{eq-eqb, ne-eqb, lt-ltb, le-ltb}
 use Rattle.step.specs.declared.Reason.the-variants as Reasons
 use Rattle.judge.specs.declared.Row.{Row}
-use Rattle.desk.specs.Table.{rowAt}
-use Rattle.desk.specs.Loads.{spanOf, rowHeard, readOf}
+use Rattle.desk.specs.Loads.{topLoad, deskAfter, loadOf, readOf}
+use Rattle.rows.specs.Place.{roomFor, rowHeard}
+use Rattle.rows.proofs.Hearing.{Within, row-within}
+use Rattle.judge.specs.Message.{judgeOf}
+use Rattle.judge.specs.declared.Judged.{Judged}
+use Rattle.judge.specs.declared.Judged.the-variants.{Refused}
 use Rattle.desk.specs.declared.Desk.{Desk}
 use Rattle.desk.specs.declared.Ticket.{Ticket}
-use Rattle.desk.specs.declared.Heard.{Heard}
-use Rattle.desk.specs.declared.Heard.the-variants.{Spoken, Silent}
+use Rattle.rows.specs.declared.Heard.the-variants.{Spoken, Silent}
 
--- ---- the row at a row number
+-- ---- a load
 
-module _ (n : ℕ) (f t : List ℕ) where
-  pub row-out : length t < 10 * (n + 1) → rowHeard n f t ≡ Silent Reasons.Astray
-  unfolding rowHeard
-  row-out h = rw (lt-ltb _ _ h, rowHeard)
+module _ (d : Desk) (f : List ℕ) (k : ℕ) (bytes : ℕ) where
+  pub load-spent : d .load .0 ≡ topLoad → loadOf d f k bytes ≡ record { desk = d; answer = Refused Reasons.Spent 0 }
+  unfolding loadOf
+  load-spent h = rw (eq-eqb _ _ h, loadOf)
 
-  module _ (r : Row) (e : r ≡ rowAt t n) (h : 10 * (n + 1) ≤ length t) where
-    pub span-out : length f < r .start + r .length → rowHeard n f t ≡ Silent Reasons.Astray
-    unfolding rowHeard spanOf
-    span-out k = rw (le-ltb _ _ h, rowHeard, ← e) (rw (lt-ltb _ _ k, spanOf))
-
-    pub span-in : r .start + r .length ≤ length f → rowHeard n f t ≡ Spoken r
-    unfolding rowHeard spanOf
-    span-in k = rw (le-ltb _ _ h, rowHeard, ← e) (rw (le-ltb _ _ k, spanOf))
+  pub load-answer : (d .load .0 ≡ topLoad → ⊥) → (j : Judged) → j ≡ roomFor bytes (judgeOf f k) → loadOf d f k bytes ≡ record { desk = deskAfter d j; answer = j }
+  unfolding loadOf
+  load-answer more j e = rw (ne-eqb _ _ more, loadOf) (rw (← e))
 
 -- ---- the ticket
 
@@ -48,26 +46,6 @@ module _ (d : Desk) (k : Ticket) (f t : List ℕ) where
   read-row h l = rw (eq-eqb _ _ h, readOf) (rw (lt-ltb _ _ l))
 
 -- ---- a row that is spoken has its span in the feed
-
-unfoldable Within : Heard → List ℕ → Type 0
-Within (Silent r) f = Unit
-Within (Spoken r) f = r .start + r .length ≤ length f
-
-span-within : (r : Row) (f : List ℕ) → Within (spanOf r f) f
-unfolding spanOf Within
-span-within r f = go (ltb (length f) (r .start + r .length)) refl
-  where
-    go : (b : Bool) → ltb (length f) (r .start + r .length) ≡ b → Within (elim b [ true ↦ Silent Reasons.Astray | false ↦ Spoken r ]) f
-    go true e = tt
-    go false e = ltb-false _ _ e
-
-row-within : (n : ℕ) (f t : List ℕ) → Within (rowHeard n f t) f
-unfolding rowHeard Within
-row-within n f t = go (ltb (length t) (10 * (n + 1)))
-  where
-    go : (b : Bool) → Within (elim b [ true ↦ Silent Reasons.Astray | false ↦ spanOf (rowAt t n) f ]) f
-    go true = tt
-    go false = span-within _ f
 
 read-within : (d : Desk) (k : Ticket) (f t : List ℕ) → Within (readOf d k f t) f
 unfolding readOf Within

@@ -9,8 +9,8 @@ use Prim.Native.Nat.{ℕ}
 use Rattle.desk.specs.declared.Desk.{Desk}
 use Rattle.desk.specs.declared.Ticket.{Ticket}
 use Rattle.desk.specs.declared.Loaded.{Loaded}
-use Rattle.desk.specs.declared.Heard.{Heard}
-use Rattle.desk.specs.declared.Heard.the-variants.{Spoken, Silent}
+use Rattle.rows.specs.declared.Heard.{Heard}
+use Rattle.rows.specs.declared.Heard.the-variants.{Spoken, Silent}
 use Rattle.odm.specs.declared.OdmCounted.{OdmCounted}
 use Rattle.odm.specs.declared.OdmPlaced.{OdmPlaced}
 use Rattle.odm.specs.declared.OdmRow.{OdmRow}

@@ -1,11 +1,11 @@
 // The C face: plain numbers and bytes. No function keeps state, allocates or prints.
 use desk::Desk;
-use desk::Heard;
 use desk::LoadNumber;
 use desk::RowNumber;
 use desk::Ticket;
 use judge::Counted;
 use judge::Judged;
+use rows::Heard;
 use step::reason_number;
 ghost use mathlib.Core.Path.{_≡_};
 ghost use Rattle.judge.specs.Message.{countOf, judgeOf};

@@ -1,12 +1,12 @@
 // Reads a feed from standard input and prints its messages' rows, in plain words, one fact a line.
 use desk::Desk;
-use desk::Heard;
 use desk::RowNumber;
 use desk::Ticket;
 use judge::Counted;
 use judge::Judged;
 use libc::STDIN_FILENO;
 use libc::STDOUT_FILENO;
+use rows::Heard;
 use step::Reason;
 ghost use mathlib.Core.Path.{_≡_};
 ghost use lib.ListN.{length};

@@ -12,9 +12,6 @@ returns c = sym (read-gone _ _ _ _ (c .if1 .taken))
 returns-2 : tie.Need-returns-2
 returns-2 c = sym (read-none _ _ _ _ (c .before .before .if1 .left) (c .if2 .taken))
 
-cast-row-heard : tie.Need-cast-row-heard
-cast-row-heard c = search needs
-
 row-heard-requires : tie.Need-row-heard-requires
 row-heard-requires c κs = search needs
 
@@ -22,4 +19,4 @@ returns-3 : tie.Need-returns-3
 returns-3 c = c .row-heard .ensures ∙ sym (read-row _ _ _ _ (c .before .before .before .if1 .left) (c .before .if2 .left))
 
 pub read-spec : {M : Type 1} → statement M
-read-spec = tie.close (tie.spec returns returns-2 cast-row-heard row-heard-requires returns-3)
+read-spec = tie.close (tie.spec returns returns-2 row-heard-requires returns-3)

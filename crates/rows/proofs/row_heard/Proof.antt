@@ -1,10 +1,10 @@
--- `desk::row_heard` meets its contract: the row in the table, then its span in the feed.
+-- `rows::row_heard` meets its contract: the row in the table, then its span in the feed.
 -- Assumes nothing.
 use mathlib.Core.Path.{sym}
-use Rattle.desk.proofs.Reading.{row-out, span-out, span-in}
+use Rattle.rows.proofs.Hearing.{row-out, span-out, span-in}
 use borrow.Author.Needs.{needs}
-use Rattle.desk.proofs.row_heard.Statement.{statement}
-use Rattle.desk.proofs.row_heard.Tie as tie
+use Rattle.rows.proofs.row_heard.Statement.{statement}
+use Rattle.rows.proofs.row_heard.Tie as tie
 
 add-if1 : tie.Need-add-if1
 add-if1 c = search needs

@@ -1,9 +1,9 @@
--- `desk::get_row` meets its contract: five entries, one after the other.
+-- `rows::get_row` meets its contract: five entries, one after the other.
 -- Assumes nothing.
-use Rattle.desk.specs.Table.{rowAt}
+use Rattle.rows.specs.Table.{rowAt}
 use borrow.Author.Needs.{needs}
-use Rattle.desk.proofs.get_row.Statement.{statement}
-use Rattle.desk.proofs.get_row.Tie as tie
+use Rattle.rows.proofs.get_row.Statement.{statement}
+use Rattle.rows.proofs.get_row.Tie as tie
 
 mul-get-entry : tie.Need-mul-get-entry
 mul-get-entry c = search needs

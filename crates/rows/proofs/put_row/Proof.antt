@@ -1,12 +1,12 @@
--- `desk::put_row` meets its contract: five entries, each stored behind the one before.
+-- `rows::put_row` meets its contract: five entries, each stored behind the one before.
 -- Assumes nothing.
 use Prim.Native.Nat.{suc, _+_, _*_}
 use mathlib.Core.Path.{_≡_}
 use native.Mathlib.Omega.{arith}
-use Rattle.desk.specs.Table.{putRow}
+use Rattle.rows.specs.Table.{putRow}
 use borrow.Author.Needs.{needs}
-use Rattle.desk.proofs.put_row.Statement.{statement}
-use Rattle.desk.proofs.put_row.Tie as tie
+use Rattle.rows.proofs.put_row.Statement.{statement}
+use Rattle.rows.proofs.put_row.Tie as tie
 
 mul-put-entry : tie.Need-mul-put-entry
 mul-put-entry c = search needs

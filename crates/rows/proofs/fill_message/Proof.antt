@@ -1,15 +1,15 @@
--- `desk::fill_message` meets its contract: nothing on a refusal; an accepted message is filled from the place where it is found.
+-- `rows::fill_message` meets its contract: nothing on a refusal; an accepted message is filled from the place where it is found.
 -- Assumes nothing.
 use mathlib.Core.Path.{_≡_, sym, _∙_}
 use Prim.Native.Nat.{_*_, _≤_}
 use lib.ListN.{length}
 use Rattle.judge.specs.Message.{judgeOf}
 use Rattle.judge.specs.declared.Judged.the-variants.{Accepted}
-use Rattle.desk.specs.Loads.{tableAfter}
-use Rattle.desk.proofs.Fills.{room-right, not-missing, found-fillable, found-rows, table-filled}
+use Rattle.rows.specs.Place.{tableAfter}
+use Rattle.rows.proofs.Fills.{room-right, not-missing, found-fillable, found-rows, table-filled}
 use borrow.Author.Needs.{needs}
-use Rattle.desk.proofs.fill_message.Statement.{statement}
-use Rattle.desk.proofs.fill_message.Tie as tie
+use Rattle.rows.proofs.fill_message.Statement.{statement}
+use Rattle.rows.proofs.fill_message.Tie as tie
 
 -- an acceptance is one of the judge, with room
 right : (c : tie.After-answer) → let s = c .before .before .before .before in let n = c .answer .given .0 .0 in

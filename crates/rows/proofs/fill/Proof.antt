@@ -1,4 +1,4 @@
--- `desk::fill` meets its contract. The invariant: the lines left are still accepted, and their rows, put from here on, give what all of them would have given.
+-- `rows::fill` meets its contract. The invariant: the lines left are still accepted, and their rows, put from here on, give what all of them would have given.
 -- Assumes nothing.
 use Prim.Native.Nat.{_+_, _-_, _≤_, _<_}
 use mathlib.Core.Path.{_≡_, refl, sym, _∙_}
@@ -12,10 +12,10 @@ use Rattle.step.specs.declared.Verdict.the-variants.{Right}
 use Rattle.judge.specs.declared.Judged.the-variants.{Accepted}
 use Rattle.judge.specs.Message.{texts, judgeTexts, rowsFrom}
 use Rattle.judge.proofs.Laws.{left, AtLine, walk-on, walk-end, judged-wrong, judged-right}
-use Rattle.desk.specs.Table.{putRows}
-use Rattle.desk.proofs.Fills.{not-both, accepted, step-fits, fill-end, fill-turn, line-inside, group-le}
-use Rattle.desk.proofs.fill.Statement.{statement}
-use Rattle.desk.proofs.fill.Tie as tie
+use Rattle.rows.specs.Table.{putRows}
+use Rattle.rows.proofs.Fills.{not-both, accepted, step-fits, fill-end, fill-turn, line-inside, group-le}
+use Rattle.rows.proofs.fill.Statement.{statement}
+use Rattle.rows.proofs.fill.Tie as tie
 
 abbrev Inv-loop : tie.InvT-loop
 Inv-loop feed from total table₀ at₀ line₀ group₀ n₀ state₀ table at line group n state =

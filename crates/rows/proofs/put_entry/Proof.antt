@@ -1,10 +1,10 @@
--- `desk::put_entry` meets its contract: two stores, the low byte first.
+-- `rows::put_entry` meets its contract: two stores, the low byte first.
 -- Assumes nothing.
 use Prim.Native.Nat.{_*_}
 use native.Mathlib.Numerals.{add-one}
 use borrow.Author.Needs.{needs}
-use Rattle.desk.proofs.put_entry.Statement.{statement}
-use Rattle.desk.proofs.put_entry.Tie as tie
+use Rattle.rows.proofs.put_entry.Statement.{statement}
+use Rattle.rows.proofs.put_entry.Tie as tie
 
 cast-table : tie.Need-cast-table
 cast-table c = search needs

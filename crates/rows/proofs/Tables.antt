@@ -9,7 +9,7 @@ use native.Mathlib.Omega.{arith}
 use lib.ListN.{length, getD}
 use lib.Seq.{getD-append-add}
 use Rattle.judge.specs.declared.Row.{Row}
-use Rattle.desk.specs.Table.{rowBytes, rowAt, tableBytes}
+use Rattle.rows.specs.Table.{rowBytes, rowAt, tableBytes}
 
 -- a row takes ten bytes
 pub table-length : (rs : List Row) → length (tableBytes rs) ≡ 10 * length rs

@@ -1,10 +1,10 @@
--- `desk::group_after` meets its contract: an arm a message type.
+-- `rows::group_after` meets its contract: an arm a message type.
 -- Assumes nothing.
 use borrow.Author.Tests.{eq-eqb, ne-eqb}
 use Rattle.judge.specs.Message.{groupOf}
 use borrow.Author.Needs.{needs}
-use Rattle.desk.proofs.group_after.Statement.{statement}
-use Rattle.desk.proofs.group_after.Tie as tie
+use Rattle.rows.proofs.group_after.Statement.{statement}
+use Rattle.rows.proofs.group_after.Tie as tie
 
 enum-told : tie.Need-enum-told
 enum-told c = search needs

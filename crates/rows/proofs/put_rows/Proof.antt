@@ -1,4 +1,4 @@
--- `desk::put_rows` meets its contract. The invariant: the rows left, put from here on, give what all of them would have given.
+-- `rows::put_rows` meets its contract. The invariant: the rows left, put from here on, give what all of them would have given.
 -- Assumes nothing.
 use Prim.Native.Nat.{_+_, _-_, _≤_}
 use mathlib.Core.Path.{_≡_, refl, sym, _∙_}
@@ -6,10 +6,10 @@ use native.Mathlib.Omega.{arith}
 use lib.ListN.{length, take, drop, getD, length-take, length-drop}
 use Rattle.lines.specs.Text.{noSpan}
 use Rattle.judge.specs.Message.{rowsAt}
-use Rattle.desk.specs.Table.{putRows}
-use Rattle.desk.proofs.Fills.{put-none, put-turn}
-use Rattle.desk.proofs.put_rows.Statement.{statement}
-use Rattle.desk.proofs.put_rows.Tie as tie
+use Rattle.rows.specs.Table.{putRows}
+use Rattle.rows.proofs.Fills.{put-none, put-turn}
+use Rattle.rows.proofs.put_rows.Statement.{statement}
+use Rattle.rows.proofs.put_rows.Tie as tie
 
 abbrev Inv-loop : tie.InvT-loop
 Inv-loop table₀ n group line at spans count code i₀ table i =

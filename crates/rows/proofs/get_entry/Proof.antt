@@ -1,12 +1,12 @@
--- `desk::get_entry` meets its contract: each of the two bytes is below 256.
+-- `rows::get_entry` meets its contract: each of the two bytes is below 256.
 -- Assumes nothing.
 use Prim.Native.Nat.{_+_, _*_, _<_}
 use mathlib.Core.Path.{refl}
 use native.Mathlib.Omega.{arith}
 use borrow.Author.Needs.{needs}
-use Rattle.desk.specs.Table.{entryAt}
-use Rattle.desk.proofs.get_entry.Statement.{statement}
-use Rattle.desk.proofs.get_entry.Tie as tie
+use Rattle.rows.specs.Table.{entryAt}
+use Rattle.rows.proofs.get_entry.Statement.{statement}
+use Rattle.rows.proofs.get_entry.Tie as tie
 
 small : (c : tie.After-shared-slice-known2) → entryAt (c .before .before .args .table .now) (c .before .before .args .i) < 65536
 small c =

@@ -8,7 +8,7 @@ use native.Mathlib.Numerals.{add-one}
 use native.Mathlib.Omega.{arith}
 use lib.Dec.{eqb, ltb}
 use lib.ListN.{length, take, drop, set, getD, length-append, length-take, length-drop}
-use borrow.Author.Tests.{eq-eqb, ne-eqb, le-ltb, ltb-true, ltb-false}
+use borrow.Author.Tests.{le-ltb, ltb-true, ltb-false}
 use lib.Seq.{sets, sets-eq, length-take-le, drop-cons, getD-take}
 use Rattle.lines.specs.Feed.{Line, endsOf}
 use Rattle.lines.specs.Text.{noSpan}
@@ -31,9 +31,8 @@ use Rattle.judge.specs.declared.Judged.the-variants.{Accepted, Refused}
 use Rattle.judge.specs.declared.Moved.{Moved}
 use Rattle.judge.specs.declared.Row.{Row}
 use Rattle.judge.proofs.Laws.{line-left, text-left, up-more, left, AtLine, judge-long, judge-missing, judge-found}
-use Rattle.desk.specs.Table.{rowBytes, tableBytes, putRow, putRows}
-use Rattle.desk.specs.Loads.{topLoad, roomFor, deskAfter, loadOf, tableAfter, StepFits, Fillable}
-use Rattle.desk.specs.declared.Desk.{Desk}
+use Rattle.rows.specs.Table.{rowBytes, tableBytes, putRow, putRows}
+use Rattle.rows.specs.Place.{roomFor, tableAfter, StepFits, Fillable}
 
 -- ---- stores
 
@@ -254,12 +253,3 @@ pub table-filled : (f : List ℕ) (k n : ℕ) (t : List ℕ) (rs : List Row) →
     → putRows 0 rs t ≡ tableAfter (Accepted n) (rowsOf f k) t
 unfolding tableAfter
 table-filled f k n t rs q h e = rw (← e) (put-table (rowsOf f k) n t (rows-count f k n q) h)
-
-module _ (d : Desk) (f : List ℕ) (k : ℕ) (bytes : ℕ) where
-  pub load-spent : d .load .0 ≡ topLoad → loadOf d f k bytes ≡ record { desk = d; answer = Refused Reasons.Spent 0 }
-  unfolding loadOf
-  load-spent h = rw (eq-eqb _ _ h, loadOf)
-
-  pub load-answer : (d .load .0 ≡ topLoad → ⊥) → (j : Judged) → j ≡ roomFor bytes (judgeOf f k) → loadOf d f k bytes ≡ record { desk = deskAfter d j; answer = j }
-  unfolding loadOf
-  load-answer more j e = rw (ne-eqb _ _ more, loadOf) (rw (← e))

@@ -1,10 +1,10 @@
--- `desk::room_for` meets its contract: a refusal as it is, an acceptance where there is room.
+-- `rows::room_for` meets its contract: a refusal as it is, an acceptance where there is room.
 -- Assumes nothing.
 use borrow.Author.Tests.{lt-ltb, le-ltb}
-use Rattle.desk.specs.Loads.{roomFor}
+use Rattle.rows.specs.Place.{roomFor}
 use borrow.Author.Needs.{needs}
-use Rattle.desk.proofs.room_for.Statement.{statement}
-use Rattle.desk.proofs.room_for.Tie as tie
+use Rattle.rows.proofs.room_for.Statement.{statement}
+use Rattle.rows.proofs.room_for.Tie as tie
 
 enum-known-judged : tie.Need-enum-known-judged
 enum-known-judged c = search needs

@@ -1,0 +1,3 @@
+pub mod Fills
+pub mod Hearing
+pub mod Tables
