@@ -1,14 +1,13 @@
 -- Demands 1 and 2, from the definitions of a load and of a ticket's reading.
 -- Assumes nothing.
-use Prim.Native.Nat.{ℕ, _*_, _≤_, _<_}
+use Prim.Native.Nat.{ℕ, _≤_, _<_}
 use mathlib.Core.Path.{_≡_, refl, sym, ap, _∙_}
 use mathlib.Core.List.{List, [], _∷_}
 use mathlib.Core.Bool.{Bool, true, false}
 use native.Mathlib.Omega.{arith}
-use lib.Dec.{eqb, ltb}
+use lib.Dec.{eqb}
 use lib.ListN.{length}
-use borrow.Author.Tests.{eq-eqb, ne-eqb, eqb-true, eqb-false}
-use Rattle.step.specs.declared.Reason.the-variants as Reasons
+use borrow.Author.Tests.{eqb-true, eqb-false}
 use Rattle.judge.specs.Message.{judgeOf}
 use Rattle.judge.specs.declared.Judged.{Judged}
 use Rattle.judge.specs.declared.Judged.the-variants.{Accepted, Refused}
@@ -16,19 +15,15 @@ use Rattle.desk.specs.Loads.{topLoad, deskAfter, loadOf}
 use Rattle.rows.specs.Place.{roomFor, tableAfter}
 use Rattle.desk.specs.declared.Desk.{Desk}
 use Rattle.desk.specs.declared.Loaded.{Loaded}
-use Rattle.desk.proofs.Reading.{read-gone}
+use Rattle.rows.proofs.Fills.{room-right}
+use Rattle.desk.proofs.Reading.{load-spent, load-answer, read-gone}
 use Rattle.demands.specs.Loads.{ticket, RefusedKeeps, SpentKeeps, Load, after, EarlierGone, LoadJudges}
 
 module _ (d : Desk) (f : List ℕ) (k bytes : ℕ) where
   -- a load that is not refused as spent
   load-free : (d .load .0 ≡ topLoad → ⊥)
       → loadOf d f k bytes ≡ record { desk = deskAfter d (roomFor bytes (judgeOf f k)); answer = roomFor bytes (judgeOf f k) }
-  unfolding loadOf
-  load-free h = rw (ne-eqb (d .load .0) topLoad h, loadOf)
-
-  load-spent : d .load .0 ≡ topLoad → loadOf d f k bytes ≡ record { desk = d; answer = Refused Reasons.Spent 0 }
-  unfolding loadOf
-  load-spent e = rw (eq-eqb (d .load .0) topLoad e, loadOf)
+  load-free h = load-answer d f k bytes h _ refl
 
   pub answer-free : (d .load .0 ≡ topLoad → ⊥) → loadOf d f k bytes .answer ≡ roomFor bytes (judgeOf f k)
   answer-free h = ap (λ (x : Loaded). x .answer) (load-free h)
@@ -73,16 +68,6 @@ earlier-gone d h x xs n f t =
     read-gone (after d (x ∷ xs)) (ticket (d .load .0) n) f t
     (λ e. omega (arith, raises d x h, run-keeps xs (loadOf d (x .feed) (x .message) (x .bytes) .desk)))
 
--- an acceptance that found room is the message's own
-room-right : (bytes : ℕ) (j : Judged) (n : ℕ) → roomFor bytes j ≡ Accepted n → j ≡ Accepted n
-unfolding roomFor
-room-right bytes (Refused r l) n e = e
-room-right bytes (Accepted m) n e = go (ltb bytes (10 * m)) e
-  where
-    go : (t : Bool) → elim t [ true ↦ Refused Reasons.NoRoom 0 | false ↦ Accepted m ] ≡ Accepted n → Accepted m ≡ Accepted n
-    go true q = let z : _≡_ {A = ℕ} 0 1 = cc in absurd (omega arith)
-    go false q = q
-
 pub load-judges : LoadJudges
 unfolding tableAfter deskAfter
-load-judges d f k t h = (answer-free d f k (length t) h, λ n e. (room-right (length t) (judgeOf f k) n (sym (answer-free d f k (length t) h) ∙ e), desk-free d f k (length t) h _ e, rw e))
+load-judges d f k t h = (answer-free d f k (length t) h, λ n e. (room-right (length t) (judgeOf f k) n (sym e ∙ answer-free d f k (length t) h) .0, desk-free d f k (length t) h _ e, rw e))

@@ -1,4 +1,5 @@
--- The numbers that the C face hands over: reason 0 means accepted or answered, and on a refusal every field but reason and line is 0.
+-- The numbers that the C face hands over: reason 0 means accepted or answered. On a refusal reason and line are its own, a desk's numbers are the next
+-- desk's, and every other field is 0.
 -- Assumes nothing.
 use Rattle.step.specs.Reasons.{reasonNo}
 use Rattle.judge.specs.declared.Judged.{Judged}

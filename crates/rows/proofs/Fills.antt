@@ -31,6 +31,7 @@ use Rattle.judge.specs.declared.Judged.the-variants.{Accepted, Refused}
 use Rattle.judge.specs.declared.Moved.{Moved}
 use Rattle.judge.specs.declared.Row.{Row}
 use Rattle.judge.proofs.Laws.{line-left, text-left, up-more, left, AtLine, judge-long, judge-missing, judge-found}
+use Rattle.rows.proofs.Tables.{table-length}
 use Rattle.rows.specs.Table.{rowBytes, tableBytes, putRow, putRows}
 use Rattle.rows.specs.Place.{roomFor, tableAfter, StepFits, Fillable}
 
@@ -219,12 +220,7 @@ module _ (f : List ℕ) (k n : ℕ) (e : judgeOf f k ≡ Accepted n) where
         let x = endsOf p (drop p f) in
         rw (q .0, up-more f p x (q .1) refl true refl) (rw (text-left p (drop p f) x refl, q .2))
 
--- ---- a load
-
-length-bytes : (rs : List Row) → length (tableBytes rs) ≡ 10 * length rs
-unfolding tableBytes
-length-bytes [] = refl
-length-bytes (r ∷ rs) = omega (arith, length-bytes rs)
+-- ---- a table filled
 
 put-sets : (rs : List Row) (n : ℕ) (t : List ℕ) → putRows n rs t ≡ sets t (10 * n) (tableBytes rs)
 unfolding putRows putRow tableBytes
@@ -235,7 +231,7 @@ put-sets (r ∷ rs) n t =
 -- the first rows' entries are filled, and the others as they came
 put-table : (rs : List Row) (n : ℕ) (t : List ℕ) → length rs ≡ n → 10 * n ≤ length t → putRows 0 rs t ≡ tableBytes rs ++ drop (10 * n) t
 put-table rs n t e h =
-    let q : 0 + length (tableBytes rs) ≡ 10 * n = omega (arith, length-bytes rs) in
+    let q : 0 + length (tableBytes rs) ≡ 10 * n = omega (arith, table-length rs) in
     put-sets rs 0 t ∙ sets-eq (tableBytes rs) t 0 (omega arith) ∙ ap (λ (j : ℕ). tableBytes rs ++ drop j t) q
 
 -- an acceptance with room is one of the judge, and has the room

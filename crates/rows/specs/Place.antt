@@ -25,7 +25,7 @@ unfoldable pub roomFor : ℕ → Judged → Judged
 roomFor bytes (Refused r l) = Refused r l
 roomFor bytes (Accepted n) = elim (ltb bytes (rowWidth * n)) [ true ↦ Refused Reasons.NoRoom 0 | false ↦ Accepted n ]
 
--- "Acceptance fills the first 5 x count entries of the table and keeps the others as they came."
+-- "Acceptance fills the first 5 x count entries of the table and keeps the others as they came"; "after a refusal [..] the table untouched"
 unfoldable pub tableAfter : Judged → List Row → List ℕ → List ℕ
 tableAfter (Refused r l) rs t = t
 tableAfter (Accepted n) rs t = tableBytes rs ++ drop (rowWidth * n) t
