@@ -8,7 +8,7 @@ use native.Mathlib.Omega.{arith}
 use lib.Dec.{eqb}
 use lib.ListN.{length, take, drop, length-drop}
 use borrow.Author.Tests.{ne-eqb, le-ltb}
-use Rattle.lines.specs.Feed.{Line, lines, linesFrom, Starts, movedLine}
+use Rattle.lines.specs.Feed.{Line, lines, linesFrom, Starts, linesBefore, movedLine}
 use Rattle.lines.specs.declared.Span.{Span}
 use Rattle.lines.proofs.Lists.{lines-from, lines-move}
 use Rattle.step.specs.Step.{freshState, stepOf}
@@ -22,7 +22,7 @@ use Rattle.rows.specs.Place.{roomFor}
 use Rattle.desk.specs.declared.Desk.{Desk}
 use Rattle.demands.proofs.Loads.{answer-free, desk-free, load-judges}
 use Rattle.judge.specs.declared.Row.{Row}
-use Rattle.demands.specs.Healing.{movedRow, Healing, HealingLoads}
+use Rattle.demands.specs.Healing.{movedRow, fromThere, Healing, HealingLoads}
 
 -- ---- headings that stand before are passed
 
@@ -108,26 +108,22 @@ unfolding judgeOf
 judge-within f k h = rw (le-ltb feedLimit (length f) h, judgeOf)
 
 module _ (f : List ℕ) (q : ℕ) (s : Starts f q) where
-  before : List Line
-  before = lines-from f q s .0
-
-  lines-are : lines f ≡ before ++ mv q (lines (drop q f))
-  unfolding before
+  lines-are : lines f ≡ linesBefore q (lines f) ++ mv q (lines (drop q f))
   lines-are =
       let z : q ≡ q + 0 = omega arith in
-      lines-from f q s .1 ∙ ap (λ (l : List Line). before ++ l) (ap (λ (k : ℕ). linesFrom 0 k [] (drop q f)) z ∙ lines-move q 0 0 [] (drop q f))
+      lines-from f q s
+      ∙ ap (λ (l : List Line). linesBefore q (lines f) ++ l) (ap (λ (k : ℕ). linesFrom 0 k [] (drop q f)) z ∙ lines-move q 0 0 [] (drop q f))
 
-  message-is : (j : ℕ) → 1 ≤ j → messageOf (headings before + j) f ≡ mv q (messageOf j (drop q f))
+  message-is : (j : ℕ) → 1 ≤ j → messageOf (fromThere f q j) f ≡ mv q (messageOf j (drop q f))
   unfolding messageOf
   message-is j h =
-      ap (λ (l : List Line). upTo true (fromHeading (headings before + j) l)) lines-are
-      ∙ ap (upTo true) (from-past before (mv q (lines (drop q f))) j h ∙ from-moved q (lines (drop q f)) j)
+      ap (λ (l : List Line). upTo true (fromHeading (fromThere f q j) l)) lines-are
+      ∙ ap (upTo true) (from-past (linesBefore q (lines f)) (mv q (lines (drop q f))) j h ∙ from-moved q (lines (drop q f)) j)
       ∙ up-moved q (fromHeading j (lines (drop q f))) true
 
 pub healing : Healing
 healing f q limit s =
     record {
-      m = headings (before f q s);
       judged = λ j h.
           judge-within f _ limit
           ∙ ap judgeLines (message-is f q s j h)
@@ -151,24 +147,22 @@ pub healing-loads : HealingLoads
 healing-loads f₁ f₂ q₁ q₂ l₁ l₂ s₁ s₂ e =
     let h₁ = healing f₁ q₁ l₁ s₁ in
     let h₂ = healing f₂ q₂ l₂ s₂ in
-    let alike : (j : ℕ) → 1 ≤ j → judgeOf f₁ (h₁ .m + j) ≡ judgeOf f₂ (h₂ .m + j) =
+    let alike : (j : ℕ) → 1 ≤ j → judgeOf f₁ (fromThere f₁ q₁ j) ≡ judgeOf f₂ (fromThere f₂ q₂ j) =
     λ j k. h₁ .judged j k ∙ ap (λ (s : List ℕ). judgeOf s j) e ∙ sym (h₂ .judged j k)
     in
     let same : (j : ℕ) → 1 ≤ j → (d₁ d₂ : Desk) (t₁ t₂ : List ℕ) → (d₁ .load .0 ≡ topLoad → ⊥) → (d₂ .load .0 ≡ topLoad → ⊥) → length t₁ ≡ length t₂
-    → loadOf d₁ f₁ (h₁ .m + j) (length t₁) .answer ≡ loadOf d₂ f₂ (h₂ .m + j) (length t₂) .answer =
+    → loadOf d₁ f₁ (fromThere f₁ q₁ j) (length t₁) .answer ≡ loadOf d₂ f₂ (fromThere f₂ q₂ j) (length t₂) .answer =
     λ j k d₁ d₂ t₁ t₂ n₁ n₂ g. answer-free d₁ f₁ _ _ n₁ ∙ ap₂ roomFor g (alike j k) ∙ sym (answer-free d₂ f₂ _ _ n₂)
     in
-    let rows : (j : ℕ) → 1 ≤ j → rowsOf f₂ (h₂ .m + j) ≡ map (movedRow q₂) (rowsOf (drop q₁ f₁) j) =
+    let rows : (j : ℕ) → 1 ≤ j → rowsOf f₂ (fromThere f₂ q₂ j) ≡ map (movedRow q₂) (rowsOf (drop q₁ f₁) j) =
     λ j k. h₂ .rows j k ∙ ap (λ (s : List ℕ). map (movedRow q₂) (rowsOf s j)) (sym e)
     in
     record {
-      m₁ = h₁ .m;
-      m₂ = h₂ .m;
       base = λ j. rowsOf (drop q₁ f₁) j;
       answers = same;
       counts = λ j k d₁ d₂ t₁ t₂ n₁ n₂ g.
           ap (λ (b : Desk). b .count) (desk-free d₁ f₁ _ _ n₁ _ (same j k d₁ d₂ t₁ t₂ n₁ n₂ g))
-          ∙ same-count d₁ d₂ (loadOf d₂ f₂ (h₂ .m + j) (length t₂) .answer)
+          ∙ same-count d₁ d₂ (loadOf d₂ f₂ (fromThere f₂ q₂ j) (length t₂) .answer)
           ∙ sym (ap (λ (b : Desk). b .count) (desk-free d₂ f₂ _ _ n₂ _ refl));
       tables₁ = λ j n k d t u a. table-by f₁ _ n _ (h₁ .rows j k) d t u a;
       tables₂ = λ j n k d t u a. table-by f₂ _ n _ (rows j k) d t u a;

@@ -7,7 +7,7 @@ use mathlib.Core.List.{List, [], _∷_, List·Memᴰ, List·Memᴰ·head, List·
 use lib.Dec.{eqb}
 use borrow.Author.Tests.{eqb-true}
 use Rattle.words.specs.Words.{bytes, agrees, run, isWord}
-use Rattle.lines.specs.Feed.{lastLine, linesFrom}
+use Rattle.lines.specs.Feed.{lastLine, linesFrom, linesBefore}
 use Rattle.lines.specs.Text.{cutEnd, trimOf, heads, headingOf, wordEnds, commentOf, sidesOf, assignmentOf, fieldThen, fieldsFrom, fieldMore, gathered}
 use Rattle.values.specs.Number.{signLen, isExponent, endsNumber, afterWhole, isNumber, digitsFrom, integerTop, isInteger}
 use Rattle.epochs.specs.Epoch.{isLeap, monthDays, daysBefore, monthDay, yearDay, isClock, isFraction, timedOf, epochOf, isBefore}
@@ -15,7 +15,7 @@ use Rattle.grammar.specs.Rows.{pick}
 use Rattle.grammar.specs.Keywords.{keywords, codeIn, keywordOf, isUnit}
 use Rattle.grammar.specs.Order.{nextOf, allows}
 use Rattle.step.specs.Step.{isTimely, areNumbers, dataAt, dataOf, fieldsOf, wholeOf, numberOf, pastTime, isEarly, timeOf, valueOf, assignOf, metaCode, metaOf, plainOf, pastComment, uncommentedOf, filledOf, stepOf}
-use Rattle.judge.specs.Message.{fromHeading, upTo, messageOf, endOf, judgeTexts, judgeLines, judgeOf, groupOf, rowsAt, rowsFrom, rowsLines}
+use Rattle.judge.specs.Message.{fromHeading, headings, upTo, messageOf, endOf, judgeTexts, judgeLines, judgeOf, groupOf, rowsAt, rowsFrom, rowsLines}
 use Rattle.desk.specs.Loads.{deskAfter, loadOf}
 use Rattle.rows.specs.Place.{roomFor}
 use Rattle.demands.specs.Marked.{Marked}
@@ -37,10 +37,10 @@ mem-of q (x ∷ xs) e = go (eqb q x) refl e (mem-of q xs)
 
 -- one declaration, so that the definitions are opened once
 both : Marked × Met
-unfolding has bytes agrees run isWord lastLine linesFrom cutEnd trimOf heads headingOf wordEnds commentOf sidesOf assignmentOf fieldThen fieldsFrom fieldMore gathered signLen isExponent endsNumber afterWhole isNumber digitsFrom integerTop isInteger isLeap monthDays daysBefore monthDay yearDay isClock isFraction timedOf epochOf isBefore pick keywords codeIn keywordOf isUnit nextOf allows isTimely areNumbers dataAt dataOf fieldsOf wholeOf numberOf pastTime isEarly timeOf valueOf assignOf metaCode metaOf plainOf pastComment uncommentedOf filledOf stepOf fromHeading upTo messageOf endOf judgeTexts judgeLines judgeOf groupOf rowsAt rowsFrom rowsLines roomFor deskAfter loadOf
+unfolding has bytes agrees run isWord lastLine linesFrom linesBefore cutEnd trimOf heads headingOf wordEnds commentOf sidesOf assignmentOf fieldThen fieldsFrom fieldMore gathered signLen isExponent endsNumber afterWhole isNumber digitsFrom integerTop isInteger isLeap monthDays daysBefore monthDay yearDay isClock isFraction timedOf epochOf isBefore pick keywords codeIn keywordOf isUnit nextOf allows isTimely areNumbers dataAt dataOf fieldsOf wholeOf numberOf pastTime isEarly timeOf valueOf assignOf metaCode metaOf plainOf pastComment uncommentedOf filledOf stepOf fromHeading headings upTo messageOf endOf judgeTexts judgeLines judgeOf groupOf rowsAt rowsFrom rowsLines roomFor deskAfter loadOf
 both = (
   (refl, refl, refl, refl, refl, refl, refl, refl, refl, refl, refl, refl, refl, refl, refl, refl, refl, refl, refl, refl),
-  (mem-of 2 _ refl, mem-of 22 _ refl, refl, refl, refl, refl),
+  (mem-of 2 _ refl, mem-of 22 _ refl, refl, refl, refl, refl, refl, refl),
 )
 
 pub marked : Marked

@@ -29,7 +29,8 @@ unfoldable pub deskAfter : Desk → Judged → Desk
 deskAfter d (Refused r l) = nextDesk d 0
 deskAfter d (Accepted n) = nextDesk d n
 
--- "A load checks 13, 1, 2, 3-11, 12. After 13 desk and table are as before"
+-- "A desk goes in by value and comes back." "A load answers accepted with its row count, or a reason and a line." "A load checks 13, 1, 2, 3-11, 12.
+-- After 13 desk and table are as before"
 unfoldable pub loadOf : Desk → List ℕ → ℕ → ℕ → Loaded
 loadOf d f k bytes =
     elim (eqb (d .load .0) topLoad) [

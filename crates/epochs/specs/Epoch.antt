@@ -77,7 +77,7 @@ timedOf s day at =
       | false ↦ Bad
     ]
 
--- "Epoch: `YYYY-MM-DDThh:mm:ss` or `YYYY-DDDThh:mm:ss`, then nothing or a period and 1 to 9 digits"
+-- "Epoch (2, 9, 29, 38-41): `YYYY-MM-DDThh:mm:ss` or `YYYY-DDDThh:mm:ss`, then nothing or a period and 1 to 9 digits"
 unfoldable pub epochOf : List ℕ → Epoch
 epochOf s =
     elim (shaped (bytes "0000-00-00T00:00:00") s) [

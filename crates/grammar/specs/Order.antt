@@ -21,7 +21,8 @@ oneOf a b = record { low = a; high = b; also = 0; end = false }
 abbrev pub steps : ℕ → ℕ → Row Next
 steps l h = each l h (λ n. only (n + 1))
 
--- "OPM: 1 [..] 15; then none or all of 16 [to] 20, one of 21 or 22, 23; then all of 24 [to] 28; then any number of whole sets 29 [to] 35."
+-- "OPM: 1 CCSDS_OPM_VERS, [..] 15 Z_DOT; then none or all of 16 SEMI_MAJOR_AXIS, [..] one of 21 TRUE_ANOMALY or 22 MEAN_ANOMALY, 23 GM; then all of
+-- 24 MASS, [..] 28 DRAG_COEFF [..]; then any number of whole sets 29 MAN_EPOCH_IGNITION, [..] 35 MAN_DV_3."
 -- Before the first line the code is 0. Where nothing else is said, the next code follows.
 abbrev pub opmOrder : List (Row Next)
 opmOrder =
@@ -33,9 +34,9 @@ opmOrder =
     ∷ steps 0 34
     ∷ []
 
--- "OEM: 36, 2, 3; then one or more segments: 37, 4, 5, 6, 7, 8, 38, optional 39, optional 40, 41, optional 42, optional 43, 44, then one or more
--- data lines." The code 45 stands for a comment that follows a data line: "a data line is ORDER if a comment stands between it and an earlier data
--- line of its segment."
+-- "OEM: 36 CCSDS_OEM_VERS, 2, 3; then one or more segments: 37 META_START, 4, 5, 6, 7, 8, 38 START_TIME, optional 39 USEABLE_START_TIME, optional 40
+-- USEABLE_STOP_TIME, 41 STOP_TIME, optional 42 INTERPOLATION, optional 43 INTERPOLATION_DEGREE, 44 META_STOP, then one or more data lines". The code
+-- 45 stands for a comment that follows a data line: "a data line is ORDER if a comment stands between it and an earlier data line of its segment."
 abbrev pub oemOrder : List (Row Next)
 oemOrder =
     one 0 (only 36)

@@ -47,7 +47,7 @@ opens Kinds.Nothing = Opm
 abbrev pub formOf : List ℕ → Form
 formOf s = opens (headingOf s)
 
--- the lines from the k-th heading line on; none where k is 0 or above the headings
+-- the lines from the k-th heading line on, none where k is 0 or above the headings: "Lines before the first heading belong to no message."
 unfoldable pub fromHeading : ℕ → List Line → List Line
 fromHeading k [] = []
 fromHeading k (l ∷ ls) =
@@ -61,7 +61,7 @@ unfoldable pub headings : List Line → ℕ
 headings [] = 0
 headings (l ∷ ls) = elim (isHeading (l .text)) [ true ↦ headings ls + 1 | false ↦ headings ls ]
 
--- "Message k runs from the k-th heading line up to the next heading line or the end of the feed." The first line is kept, heading or not.
+-- "Message k (from 1) runs from the k-th heading line up to the next heading line or the end of the feed." The first line is kept, heading or not.
 unfoldable pub upTo : Bool → List Line → List Line
 upTo first [] = []
 upTo first (l ∷ ls) = elim (not first && isHeading (l .text)) [ true ↦ [] | false ↦ l ∷ upTo false ls ]
@@ -72,7 +72,7 @@ messageOf k f = upTo true (fromHeading k (lines f))
 abbrev pub texts : List Line → List (List ℕ)
 texts ls = map (λ (l : Line). l .text) ls
 
--- "SHORT: no line offends, but an obligatory item or the rest of a begun set is missing at the end; last line + 1"
+-- SHORT: "no line offends, but an obligatory item or the rest of a begun set is missing at the end", at "last line + 1"
 unfoldable pub endOf : State → ℕ → ℕ → Judged
 endOf st line rows = elim (nextOf (st .form) (st .last) .end) [ true ↦ Accepted rows | false ↦ Refused Reasons.Short line ]
 
@@ -83,12 +83,12 @@ judgeTexts st line rows (t ∷ ts) =
     let x = stepOf st t in
     elim (x .verdict) [ Wrong r ↦ Refused r line | Right ↦ judgeTexts (x .state) (line + 1) (rows + x .count) ts ]
 
--- the judgement of a message, from its lines; "NO_MESSAGE: message number 0 or above the headings"
+-- the judgement of a message, from its lines; NO_MESSAGE: "message number 0 or above the headings"
 unfoldable pub judgeLines : List Line → Judged
 judgeLines [] = Refused Reasons.NoMessage 0
 judgeLines (l ∷ ls) = judgeTexts (freshState (formOf (l .text))) 1 0 (texts (l ∷ ls))
 
--- "FEED_LONG: feed over 65,535 bytes"
+-- FEED_LONG: "feed over 65,535 bytes"
 abbrev pub feedLimit : ℕ
 feedLimit = 65535
 

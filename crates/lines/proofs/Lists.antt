@@ -10,12 +10,13 @@ use native.Mathlib.Numerals.{add-one}
 use native.Mathlib.Omega.{arith}
 use lib.Dec.{eqb}
 use lib.ListN.{length, take, drop, length-append, length-drop}
-use lib.Seq.{drop-drop, drop-append-seam}
+use lib.Seq.{drop-drop}
+use borrow.Author.Tests.{lt-ltb, le-ltb}
 use Rattle.words.specs.Words.{run}
 use Rattle.words.proofs.Laws.{run-le}
 use Rattle.lines.proofs.Laws.{end-le}
 use Rattle.lines.specs.declared.Ends.{Ends}
-use Rattle.lines.specs.Feed.{Line, isEnd, joins, lastLine, linesFrom, linesAt, lines, textLen, endWith, endLen, lineLen, endsOf, Starts, movedLine}
+use Rattle.lines.specs.Feed.{Line, isEnd, joins, lastLine, linesFrom, linesAt, lines, textLen, endWith, endLen, lineLen, endsOf, Starts, linesBefore, movedLine}
 
 abbrev line : ℕ → List ℕ → Line
 line at t = record { start = at; text = t }
@@ -164,14 +165,33 @@ lines-move d e at t (b ∷ s) =
 
 -- ---- the lines from any place where one starts
 
+module _ (q : ℕ) (l : Line) (ls : List Line) where
+  before-more : l .start < q → linesBefore q (l ∷ ls) ≡ l ∷ linesBefore q ls
+  unfolding linesBefore
+  before-more h = rw (lt-ltb (l .start) q h, linesBefore)
+
+  before-less : q ≤ l .start → linesBefore q (l ∷ ls) ≡ linesBefore q ls
+  unfolding linesBefore
+  before-less h = rw (le-ltb (l .start) q h, linesBefore)
+
+-- no line of what stands from a place on starts before it
+none-moved : (q : ℕ) (ls : List Line) → linesBefore q (map (movedLine q) ls) ≡ []
+unfolding linesBefore
+none-moved q [] = refl
+none-moved q (l ∷ ls) = before-less q (movedLine q l) (map (movedLine q) ls) (omega arith) ∙ none-moved q ls
+
+none-before : (q : ℕ) (s : List ℕ) → linesBefore q (linesAt q s) ≡ []
+none-before q s =
+    let z : q ≡ q + 0 = omega arith in
+    ap (linesBefore q) (ap (λ (k : ℕ). linesAt k s) z ∙ lines-move q 0 0 [] s) ∙ none-moved q (linesAt 0 s)
+
 abbrev starts : List Line → List ℕ
 starts ls = map (λ (l : Line). l .start) ls
 
 -- the lines before the place, then those of what stands from there on
-pub record Cut (at : ℕ) (s : List ℕ) (q : ℕ) : Type 0 where
-  pub before : List Line
-  pub after : at ≤ q
-  pub same : linesAt at s ≡ before ++ linesAt q (drop (q - at) s)
+record Cut (at : ℕ) (s : List ℕ) (q : ℕ) : Type 0 where
+  after : at ≤ q
+  same : linesAt at s ≡ linesBefore q (linesAt at s) ++ linesAt q (drop (q - at) s)
 
 abbrev CutTo : ℕ → Type 0
 CutTo n = (at : ℕ) (s : List ℕ) → length s ≤ n → (q : ℕ) → List·Memᴰ q (starts (linesAt at s)) → Cut at s q
@@ -182,25 +202,27 @@ cut-none at q m = absurd (List·Memᴰ·not-nil (rw (lines-end at) at m))
 cut-here : (at : ℕ) (s : List ℕ) (q : ℕ) → q ≡ at → Cut at s q
 cut-here at s q e =
     let z : q - at ≡ 0 = omega arith in
-    record { before = []; after = omega arith; same = rw (z, e) }
+    record { after = omega arith; same = rw (z, e) (rw (none-before at s)) }
 
 cut-more : (n : ℕ) → CutTo n → CutTo (suc n)
 cut-more n ih at [] h q m = cut-none at q m
 cut-more n ih at (b ∷ s) h q m =
     let w = b ∷ s in
     let k : 0 < lineLen w = len-some w (omega arith) in
-    let next = lines-next at w (omega arith) in
+    let first = line at (take (textLen w) w) in
+    let rest = linesAt (at + lineLen w) (drop (lineLen w) w) in
+    let next : linesAt at w ≡ first ∷ rest = lines-next at w (omega arith) in
     ⊎-elim (cut-here at w q)
     (λ m′.
     let c = ih (at + lineLen w) (drop (lineLen w) w) (simp length-drop (omega arith)) q m′ in
     let d : lineLen w + (q - (at + lineLen w)) ≡ q - at = omega (arith, c .after) in
+    let e : drop (q - (at + lineLen w)) (drop (lineLen w) w) ≡ drop (q - at) w = drop-drop (q - (at + lineLen w)) (lineLen w) w ∙ ap (λ (j : ℕ). drop j w) d in
     record {
-      before = line at (take (textLen w) w) ∷ c .before;
       after = omega (arith, c .after);
       same =
           next
-          ∙ ap (λ (l : List Line). line at (take (textLen w) w) ∷ l)
-          (c .same ∙ ap (λ (l : List ℕ). c .before ++ linesAt q l) (drop-drop (q - (at + lineLen w)) (lineLen w) w ∙ ap (λ (j : ℕ). drop j w) d));
+          ∙ ap (λ (l : List Line). first ∷ l) (c .same ∙ ap (λ (l : List ℕ). linesBefore q rest ++ linesAt q l) e)
+          ∙ ap (λ (l : List Line). l ++ linesAt q (drop (q - at) w)) (sym (before-more q first rest (omega (arith, c .after))) ∙ ap (linesBefore q) (sym next));
     })
     (List·Memᴰ·cases-cons (rw next at m))
 
@@ -212,17 +234,11 @@ cut-to : (n : ℕ) → CutTo n
 cut-to zero = cut-zero
 cut-to (suc n) = cut-more n (cut-to n)
 
--- a feed's lines from a place on where a line starts are the lines of what stands there, whatever came before
-pub lines-from : (f : List ℕ) (q : ℕ) → Starts f q → (before : List Line) × (lines f ≡ before ++ linesAt q (drop q f))
+-- a feed's lines are those before a place where a line starts, and then the lines of what stands there, whatever came before
+pub lines-from : (f : List ℕ) (q : ℕ) → Starts f q → lines f ≡ linesBefore q (lines f) ++ linesAt q (drop q f)
 lines-from f q m =
-    let c = cut-to (length f) 0 f (omega arith) q m in
     let z : q - 0 ≡ q = omega arith in
-    (c .before, c .same ∙ ap (λ (j : ℕ). c .before ++ linesAt q (drop j f)) z)
-
-pub lines-append : (p t : List ℕ) → Starts (p ++ t) (length p) → (before : List Line) × (lines (p ++ t) ≡ before ++ linesAt (length p) t)
-lines-append p t m =
-    let c = lines-from (p ++ t) (length p) m in
-    (c .0, c .1 ∙ ap (λ (l : List ℕ). c .0 ++ linesAt (length p) l) (drop-append-seam p t))
+    cut-to (length f) 0 f (omega arith) q m .same ∙ ap (λ (j : ℕ). linesBefore q (lines f) ++ linesAt q (drop j f)) z
 
 -- ---- the places of a line lie in the feed
 

@@ -3,7 +3,7 @@
 use Prim.Native.Nat.{ℕ, _+_}
 use mathlib.Core.List.{List, [], _∷_, _++_, map, List·Memᴰ}
 use mathlib.Core.Bool.{Bool, true, false, not, _&&_, _||_}
-use lib.Dec.{eqb}
+use lib.Dec.{eqb, ltb}
 use lib.ListN.{length, drop}
 use Rattle.words.specs.Words.{run}
 use Rattle.lines.specs.declared.Ends.{Ends}
@@ -73,6 +73,11 @@ endsOf at s = record { end = at + textLen s; next = at + lineLen s }
 -- a place where a line of the feed starts
 abbrev pub Starts : List ℕ → ℕ → Type 0
 Starts f q = List·Memᴰ q (map (λ (l : Line). l .start) (lines f))
+
+-- the lines that start before a place
+unfoldable pub linesBefore : ℕ → List Line → List Line
+linesBefore q [] = []
+linesBefore q (l ∷ ls) = elim (ltb (l .start) q) [ true ↦ l ∷ linesBefore q ls | false ↦ linesBefore q ls ]
 
 -- a line that stands d bytes further on
 abbrev pub movedLine : ℕ → Line → Line

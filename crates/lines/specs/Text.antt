@@ -53,7 +53,8 @@ oddAt s = run (λ b. not (isOdd b)) s
 abbrev pub equalsAt : List ℕ → ℕ
 equalsAt s = firstAt 61 s
 
--- "any number of blanks, then [the word], any number of blanks, then `=`. Nothing else about the line matters to this test"
+-- "any number of blanks, then [the word], any number of blanks, then `=`. Nothing else about the line matters to this test, not even
+-- its length."
 unfoldable pub heads : List ℕ → List ℕ → Bool
 heads w s =
     let t = drop (blanks s) s in

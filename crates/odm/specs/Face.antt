@@ -29,7 +29,7 @@ judgedNos (Refused r l) = record { reason = reasonNo r; line = l; rows = 0 }
 abbrev pub deskNos : ℕ → ℕ → Desk
 deskNos load count = record { load = record { 0 = load }; count = count }
 
--- a ticket: the load number at issue and the row number
+-- "A ticket is a load number with a row number, from 0; a row number and a load number are never taken for each other."
 abbrev pub ticketNos : ℕ → ℕ → Ticket
 ticketNos load row = record { load = record { 0 = load }; row = record { 0 = row } }
 

@@ -20,7 +20,7 @@ use Rattle.rows.specs.Table.{rowWidth, tableBytes, rowAt}
 use Rattle.rows.specs.declared.Heard.{Heard}
 use Rattle.rows.specs.declared.Heard.the-variants.{Spoken, Silent}
 
--- "NO_ROOM: message right, table under 5 x count entries": the judgement of a message, with a table of so many bytes
+-- NO_ROOM: "message right, table under 5 x count entries": the judgement of a message, with a table of so many bytes
 unfoldable pub roomFor : ℕ → Judged → Judged
 roomFor bytes (Refused r l) = Refused r l
 roomFor bytes (Accepted n) = elim (ltb bytes (rowWidth * n)) [ true ↦ Refused Reasons.NoRoom 0 | false ↦ Accepted n ]
@@ -30,7 +30,7 @@ unfoldable pub tableAfter : Judged → List Row → List ℕ → List ℕ
 tableAfter (Refused r l) rs t = t
 tableAfter (Accepted n) rs t = tableBytes rs ++ drop (rowWidth * n) t
 
--- "ASTRAY: the row isn't wholly in the table, or its span not in the feed"
+-- ASTRAY: "the row isn't wholly in the table, or its span not in the feed"
 unfoldable pub spanOf : Row → List ℕ → Heard
 spanOf r f = elim (ltb (length f) (r .start + r .length)) [ true ↦ Silent Reasons.Astray | false ↦ Spoken r ]
 

@@ -119,7 +119,7 @@ dataOf st f s =
       | true ↦ elim (epochOf (part (getD (f .spans) 0 noSpan) s)) [ Bad ↦ wrong st Reasons.Value | At t ↦ dataAt st f t s ]
     ]
 
--- "OEM only, trimmed, exactly seven fields parted by runs of blanks: a data line. Anything else: FORM."
+-- "OEM only, trimmed, exactly seven fields parted by runs of blanks: a data line." "Anything else: FORM."
 unfoldable pub fieldsOf : State → List ℕ → Step
 fieldsOf st s =
     let f = splitOf s in
@@ -203,7 +203,7 @@ metaCode Opm t = 0
 metaCode Oem t =
     elim (isWord (bytes "META_START") t) [ true ↦ 37 | false ↦ elim (isWord (bytes "META_STOP") t) [ true ↦ 44 | false ↦ 0 ] ]
 
--- "A META line: ORDER." Its row's length is 0, just past the keyword, which ends at n.
+-- "A META line: ORDER." "For META lines and empty comments the length is 0 and start is just past the keyword", which ends at n.
 unfoldable pub metaOf : State → ℕ → ℕ → Step
 metaOf st c n =
     elim (fitsHere st c) [ false ↦ wrong st Reasons.Order | true ↦ oneRow (past st c) c (record { from = n; to = n }) ]
@@ -223,12 +223,12 @@ uncommentedOf st t s =
     let c = metaCode (st .form) (part t s) in
     elim (eqb c 0) [ true ↦ plainOf st s | false ↦ metaOf st c (t .to) ]
 
--- what is no blank line
+-- what is no blank line: "45 is COMMENT."
 unfoldable pub filledOf : State → Span → List ℕ → Step
 filledOf st t s =
     elim (commentOf s) [ CommentValue p ↦ oneRow (pastComment st) 45 p | Other ↦ uncommentedOf st t s ]
 
--- "Tried in this order: LONG, then BYTE [..]. Only blanks: skipped, allowed everywhere."
+-- "Tried in this order": "LONG, then BYTE, for text over 254 bytes or with a byte outside 32 to 126." "Only blanks: skipped, allowed everywhere."
 unfoldable pub stepOf : State → List ℕ → Step
 stepOf st s =
     elim (isLong s) [

@@ -39,8 +39,8 @@ unfoldable pub afterWhole : ℕ → List ℕ → Bool
 afterWhole n [] = leb n 16
 afterWhole n (b ∷ s) = eqb b 46 && (leb 1 (digits s) && endsNumber n (digits s) (drop (digits s) s))
 
--- "Number: optional sign, then either digits with an optional period and more digits, [..]; or one digit, a period, 1 to 15 digits, `E` or `e`,
--- optional sign, 1 to 3 digits"
+-- "Number (the rest, save epochs): optional sign, then either digits with an optional period and more digits, [..]; or one digit, a period, 1 to 15
+-- digits, `E` or `e`, optional sign, 1 to 3 digits"
 unfoldable pub isNumber : List ℕ → Bool
 isNumber s =
     let u = unsigned s in
@@ -62,7 +62,7 @@ isInteger s =
     let u = unsigned s in
     leb 1 (length u) && (eqb (digits u) (length u) && leb (digitsFrom 0 u) (integerTop s))
 
--- "Text: one byte or more."
+-- "Text (3 to 8, 32, 42): one byte or more."
 abbrev pub isText : List ℕ → Bool
 isText s = leb 1 (length s)
 
