@@ -7,7 +7,9 @@ cd "$(dirname "$0")/.."
 host_tools
 mkdir -p build
 if [ -n "$RUN" ]; then
-  kinds=undefined link=-static
+  # Debian's cross libm.a is a linker's script whose paths are those of a native machine: a copy with its own paths is linked instead
+  sed 's|/usr/lib/x86_64-linux-gnu/|/usr/x86_64-linux-gnu/lib/|g' /usr/x86_64-linux-gnu/lib/libm.a >build/libm.a
+  kinds=undefined link="-static -Lbuild"
 else
   kinds=address,undefined link=
 fi
