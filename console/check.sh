@@ -14,7 +14,9 @@ fresh=build/sessions
 sessions=0
 failed=0
 
-make_feeds() { # the 244 bytes of whole.oem, then blank lines up to the limit of 65,535 bytes, and one byte past it
+make_feeds() { # two that a session changes and removes; whole.oem's 244 bytes, then blank lines up to the limit of 65,535, and one byte past it
+  cp "$stored/whole.oem" "$fresh/changing.oem"
+  cp "$stored/whole.oem" "$fresh/vanishing.oem"
   { cat "$stored/whole.oem"; head -c 65291 /dev/zero | tr '\0' '\n'; } >"$fresh/full.feed"
   { cat "$fresh/full.feed"; echo; } >"$fresh/long.feed"
 }

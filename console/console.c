@@ -1,8 +1,7 @@
 /* The console: an analyst loads a message of a feed and has its rows spoken. It judges nothing: every answer about a message, a row or a
- * ticket is the library's. It keeps the desk as it last came back, the feed's bytes, the table, and one ticket.
+ * ticket is the library's, and every value is one that the present load judged (desk.h). Here are the commands and what is said.
  */
 #define _POSIX_C_SOURCE 200809L
-#include <errno.h>
 #include <inttypes.h>
 #include <stdbool.h>
 #include <stddef.h>
@@ -11,62 +10,16 @@
 #include <string.h>
 #include <unistd.h>
 
-#include "odm.h"
+#include "desk.h"
 #include "voice.h"
 #include "words.h"
 
-enum {
-    FEED_TOP = 65535,        /* a feed is read to one byte past this limit, so that the library itself refuses a longer one */
-    TABLE_ROOM = 10 * 65535, /* ten bytes a row */
-    COMMAND_ROOM = 8192,
-    OPM_HEADING = 1,
-    OEM_HEADING = 36
-};
+enum { COMMAND_ROOM = 8192, OPM_HEADING = 1, OEM_HEADING = 36 };
 
-struct feed {
-    uint8_t bytes[FEED_TOP + 1];
-    size_t length;
-};
-
-static struct feed feed;     /* the present feed */
-static struct feed incoming; /* a feed while it is read: it takes the present one's place only when all of it is here */
-static struct feed loaded;   /* the feed as the present load had it, to tell whether it was changed since */
-static uint8_t table[TABLE_ROOM];
-static struct {
-    uint32_t load, count;
-} desk;
-static uint32_t heading; /* the code of the present load's row 0: it tells what a group is called */
-static struct {
-    bool kept;
-    uint32_t load, row;
-} ticket;
+static uint32_t heading;     /* the code of the present load's row 0: it tells what a group is called */
+static struct ticket ticket; /* the one that `ticket` keeps and `speak` uses */
+static struct ticket spoken; /* of the row that was spoken last */
 static bool leaving;
-
-/* Feeds */
-
-/* Reads a feed file. Where it cannot be read, the reason is said and the present feed stays. */
-static bool read_feed(const char *name) {
-    errno = 0;
-    FILE *file = fopen(name, "rb");
-    bool right = file != NULL;
-    if (right) {
-        incoming.length = fread(incoming.bytes, 1, sizeof incoming.bytes, file);
-        right = ferror(file) == 0;
-    }
-    int error = errno;
-    if (file != NULL) fclose(file);
-    if (right) {
-        feed = incoming;
-        return true;
-    }
-    say("cannot read %s", name);
-    say("reason: %s", error == 0 ? "it is not known" : strerror(error));
-    return false;
-}
-
-static bool feed_changed(void) {
-    return feed.length != loaded.length || memcmp(feed.bytes, loaded.bytes, feed.length) != 0;
-}
 
 /* What the library answers, in words */
 
@@ -76,7 +29,7 @@ static void say_reason(uint32_t reason, uint32_t line) {
 }
 
 static void say_messages(void) {
-    odm_counted counted = odm_headings(feed.bytes, feed.length);
+    odm_counted counted = desk_messages();
     if (counted.reason == ODM_OK) {
         say("%" PRIu32 " message%s", counted.count, counted.count == 1 ? "" : "s");
     } else {
@@ -85,13 +38,22 @@ static void say_messages(void) {
     }
 }
 
-static void say_feed(const char *name) {
-    say("feed %s", name);
-    say_messages();
+/* Brings a feed in for the next load, or says why it cannot be read. */
+static bool bring_feed(const char *name) {
+    int error;
+    bool right = desk_bring(name, &error);
+    if (right) {
+        say("feed %s", name);
+        say_messages();
+    } else {
+        say("cannot read %s", name);
+        say("reason: %s", error == 0 ? "it is not known" : strerror(error));
+    }
+    return right;
 }
 
 static void say_row_count(void) {
-    say("%" PRIu32 " row%s", desk.count, desk.count == 1 ? "" : "s");
+    say("%" PRIu32 " row%s", desk_rows(), desk_rows() == 1 ? "" : "s");
 }
 
 static void say_group(uint32_t group) {
@@ -102,32 +64,63 @@ static void say_group(uint32_t group) {
     else say("group %" PRIu32, group);
 }
 
-static void say_row(uint32_t number, odm_row row) {
-    say("row %" PRIu32, number);
-    say("%s", keyword_word(row.code));
-    say_group(row.group);
-    say("line %" PRIu32, row.line);
-    if (row.length == 0) say("no value");
-    else say_bytes("value", feed.bytes + row.start, row.length);
+/* One character of a value, by a word that a voice says clearly. */
+static void say_character(uint8_t byte) {
+    if (byte >= 'A' && byte <= 'Z') say("capital %c", byte);
+    else if (byte >= 'a' && byte <= 'z') say("small %c", byte);
+    else say("%s", sign_word(byte));
 }
 
-static odm_row read_row(uint32_t load, uint32_t number) {
-    return odm_read(desk.load, desk.count, load, number, feed.bytes, feed.length, table, sizeof table);
+/* What was asked for comes first, then where it stands. */
+static void say_row(uint32_t number, struct heard heard) {
+    const char *unit = unit_words(heard.row.code);
+    say("row %" PRIu32 " %s", number, keyword_word(heard.row.code));
+    if (heard.row.length == 0) say("no value");
+    else say("value %.*s%s%s", (int)heard.row.length, (const char *)heard.value, *unit == '\0' ? "" : " ", unit);
+    say_group(heard.row.group);
+    say("line %" PRIu32, heard.row.line);
 }
 
-/* The row, or that what was asked for is refused. */
-static void say_answer(const char *asked, uint32_t number, odm_row row) {
-    if (row.reason == ODM_OK) {
-        say_row(number, row);
-    } else {
+/* The library's answer to a ticket; a refusal is said, with what was asked for. */
+static struct heard read_or_say(const char *asked, uint32_t load, uint32_t number) {
+    struct heard heard = desk_read(load, number);
+    if (heard.row.reason != ODM_OK) {
         say("%s %" PRIu32 " refused", asked, number);
-        say_reason(row.reason, 0);
+        say_reason(heard.row.reason, 0);
     }
+    return heard;
 }
 
-/* An answer that hangs on the feed's bytes is not said without this, where they are no longer those of the load. */
-static void say_changed(odm_row row) {
-    if ((row.reason == ODM_OK || row.reason == ODM_ASTRAY) && feed_changed()) say("the feed was changed since the load");
+static void speak_ticket(const char *asked, uint32_t load, uint32_t number) {
+    struct heard heard = read_or_say(asked, load, number);
+    if (heard.row.reason != ODM_OK) return;
+    say_row(number, heard);
+    spoken = (struct ticket){true, load, number};
+}
+
+static void speak_row(uint32_t number) {
+    speak_ticket("row", desk_load(), number);
+}
+
+/* Whether a row of the present load was spoken: the ticket of one of an earlier load has another load number. */
+static bool spoken_here(void) {
+    return spoken.kept && spoken.load == desk_load();
+}
+
+/* The row where `next` and `find` go on. */
+static uint32_t row_after_spoken(void) {
+    return spoken_here() ? spoken.row + 1 : 0;
+}
+
+static bool loaded_or_say(void) {
+    if (desk_rows() == 0) say("no message is loaded");
+    return desk_rows() > 0;
+}
+
+static bool spoken_or_say(void) {
+    if (!loaded_or_say()) return false;
+    if (!spoken_here()) say("no row of this load was spoken yet");
+    return spoken_here();
 }
 
 /* Commands */
@@ -143,16 +136,13 @@ static void run_messages(struct argument argument) {
 }
 
 static void run_load(struct argument argument) {
-    odm_placed placed = odm_place(desk.load, desk.count, feed.bytes, feed.length, (size_t)argument.number, table, sizeof table);
-    desk.load = placed.load;
-    desk.count = placed.count;
-    if (placed.reason != ODM_SPENT) loaded = feed;
+    odm_placed placed = desk_place((size_t)argument.number);
     if (placed.reason != ODM_OK) {
         say("message %" PRIu64 " refused", argument.number);
         say_reason(placed.reason, placed.line);
         return;
     }
-    heading = read_row(desk.load, 0).code;
+    heading = desk_read(desk_load(), 0).row.code;
     say("message %" PRIu64 " accepted", argument.number);
     say_row_count();
 }
@@ -160,50 +150,68 @@ static void run_load(struct argument argument) {
 static void run_rows(struct argument argument) {
     (void)argument;
     say_row_count();
-    for (uint32_t number = 0; number < desk.count && !voice_lost(); number++) {
-        odm_row row = read_row(desk.load, number);
-        if (number == 0) say_changed(row);
-        say_answer("row", number, row);
-    }
+    for (uint32_t number = 0; number < desk_rows() && !voice_lost(); number++) speak_row(number);
 }
 
 static void run_row(struct argument argument) {
-    uint32_t number = (uint32_t)argument.number;
-    odm_row row = read_row(desk.load, number);
-    say_changed(row);
-    say_answer("row", number, row);
+    speak_row((uint32_t)argument.number);
+}
+
+static void run_next(struct argument argument) {
+    (void)argument;
+    if (!loaded_or_say()) return;
+    if (row_after_spoken() == desk_rows()) say("there is no row after row %" PRIu32, spoken.row);
+    else speak_row(row_after_spoken());
+}
+
+static void run_back(struct argument argument) {
+    (void)argument;
+    if (!spoken_or_say()) return;
+    if (spoken.row == 0) say("there is no row before row 0");
+    else speak_row(spoken.row - 1);
+}
+
+static void run_find(struct argument argument) {
+    uint32_t code = keyword_code(argument.text), number = row_after_spoken();
+    if (code == 0) {
+        say("there is no keyword: %s", argument.text);
+        return;
+    }
+    if (!loaded_or_say()) return;
+    while (number < desk_rows() && desk_read(desk_load(), number).row.code != code) number++;
+    if (number < desk_rows()) speak_row(number);
+    else if (spoken_here()) say("there is no %s after row %" PRIu32, keyword_word(code), spoken.row);
+    else say("there is no %s in this load", keyword_word(code));
+}
+
+static void run_spell(struct argument argument) {
+    (void)argument;
+    if (!spoken_or_say()) return;
+    struct heard heard = read_or_say("row", spoken.load, spoken.row);
+    if (heard.row.reason == ODM_OK && heard.row.length == 0) say("no value");
+    for (uint32_t at = 0; at < heard.row.length; at++) say_character(heard.value[at]);
 }
 
 /* A ticket is kept if the library would answer it now; else the one kept before, if any, stays. */
 static void run_ticket(struct argument argument) {
     uint32_t number = (uint32_t)argument.number;
-    odm_row row = read_row(desk.load, number);
-    if (row.reason != ODM_OK) {
-        say_changed(row);
-        say_answer("ticket for row", number, row);
+    if (read_or_say("ticket for row", desk_load(), number).row.reason != ODM_OK) {
         say(ticket.kept ? "the ticket kept before stays" : "no ticket is kept");
         return;
     }
-    ticket.kept = true;
-    ticket.load = desk.load;
-    ticket.row = number;
+    ticket = (struct ticket){true, desk_load(), number};
     say("ticket kept for row %" PRIu32, number);
 }
 
 static void run_speak(struct argument argument) {
     (void)argument;
-    if (!ticket.kept) {
-        say("no ticket is kept");
-        return;
-    }
-    odm_row row = read_row(ticket.load, ticket.row);
-    say_changed(row);
-    say_answer("ticket for row", ticket.row, row);
+    if (ticket.kept) speak_ticket("ticket for row", ticket.load, ticket.row);
+    else say("no ticket is kept");
 }
 
 static void run_feed(struct argument argument) {
-    if (read_feed(argument.text)) say_feed(argument.text);
-    else say("the feed is as it was");
+    if (!bring_feed(argument.text)) say("the feed for the next load is as it was");
+    if (desk_rows() > 0) say("the present load stays as it is");
 }
 
 static void run_help(struct argument argument);
@@ -213,7 +221,7 @@ static void run_quit(struct argument argument) {
     leaving = true;
 }
 
-enum takes { NOTHING, A_NUMBER, A_FILE };
+enum takes { NOTHING, A_NUMBER, A_FILE, A_KEYWORD };
 
 static const struct command {
     const char *name;
@@ -222,13 +230,17 @@ static const struct command {
     void (*run)(struct argument argument);
     const char *help;
 } commands[] = {
-    {"messages", NOTHING, 0, run_messages, "messages: how many messages the feed has"},
-    {"load", A_NUMBER, SIZE_MAX, run_load, "load N: load message N, from 1"},
+    {"messages", NOTHING, 0, run_messages, "messages: how many messages the feed for the next load has"},
+    {"load", A_NUMBER, SIZE_MAX, run_load, "load N: load message N of it, from 1"},
     {"rows", NOTHING, 0, run_rows, "rows: speak all rows of the present load"},
     {"row", A_NUMBER, UINT32_MAX, run_row, "row N: speak row N of the present load, from 0"},
+    {"next", NOTHING, 0, run_next, "next: speak the row after the one spoken last, at first row 0"},
+    {"back", NOTHING, 0, run_back, "back: speak the row before the one spoken last"},
+    {"find", A_KEYWORD, 0, run_find, "find KEYWORD: speak the next row with this keyword after the one spoken last"},
+    {"spell", NOTHING, 0, run_spell, "spell: spell the value spoken last, one character a line"},
     {"ticket", A_NUMBER, UINT32_MAX, run_ticket, "ticket N: keep a ticket for row N of the present load"},
     {"speak", NOTHING, 0, run_speak, "speak: speak the row of the kept ticket"},
-    {"feed", A_FILE, 0, run_feed, "feed FILE: read another feed file"},
+    {"feed", A_FILE, 0, run_feed, "feed FILE: bring in a feed for the next load, and the present load stays"},
     {"help", NOTHING, 0, run_help, "help: say these lines"},
     {"quit", NOTHING, 0, run_quit, "quit: end the session"},
 };
@@ -268,6 +280,7 @@ static void run_command(const struct command *command, const char *text) {
     if (command->takes == NOTHING && given) say("%s stands alone, with nothing after it", command->name);
     else if (command->takes == A_NUMBER && !given) say("%s needs a number", command->name);
     else if (command->takes == A_FILE && !given) say("%s needs a file name", command->name);
+    else if (command->takes == A_KEYWORD && !given) say("%s needs a keyword", command->name);
     else if (command->takes == A_NUMBER) run_with_number(command, argument);
     else command->run(argument);
 }
@@ -352,8 +365,7 @@ int main(int count, char **arguments) {
         return 2;
     }
     if (speech != NULL) voice_use(speech);
-    if (read_feed(name)) say_feed(name);
-    else say("the feed is empty");
+    if (!bring_feed(name)) say("no feed is brought in");
     hold_session();
     return ferror(stdin) || voice_lost() ? 1 : 0;
 }

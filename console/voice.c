@@ -59,17 +59,6 @@ void say(const char *format, ...) {
     speak_line();
 }
 
-void say_bytes(const char *word, const uint8_t *bytes, size_t length) {
-    int filled = snprintf(line, sizeof line, "%s ", word);
-    size_t at = filled < 0 ? 0 : (size_t)filled;
-    for (size_t from = 0; from < length && at + 1 < sizeof line; from++) {
-        uint8_t byte = bytes[from];
-        line[at++] = byte >= 32 && byte <= 126 ? (char)byte : '?';
-    }
-    line[at] = '\0';
-    speak_line();
-}
-
 bool voice_lost(void) {
     return ferror(stdout) != 0;
 }

@@ -3,8 +3,6 @@
 #define VOICE_H
 
 #include <stdbool.h>
-#include <stddef.h>
-#include <stdint.h>
 
 /* From now on each line is also piped to this command, run once a line by the shell. */
 void voice_use(const char *command);
@@ -14,9 +12,6 @@ void voice_use(const char *command);
 __attribute__((format(printf, 1, 2)))
 #endif
 void say(const char *format, ...);
-
-/* Says one line: the word, a blank, and the bytes, any byte outside 32 to 126 as `?`. */
-void say_bytes(const char *word, const uint8_t *bytes, size_t length);
 
 /* Whether standard output has failed, so that nobody can hear any more. */
 bool voice_lost(void);

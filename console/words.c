@@ -1,10 +1,12 @@
+#define _POSIX_C_SOURCE 200809L
 #include "words.h"
 
 #include <stddef.h>
+#include <strings.h>
 
 #include "odm.h"
 
-enum { KEYWORDS = 46, REASONS = 17 }; /* one more than the last number, since 0 stands for none */
+enum { KEYWORDS = 46, REASONS = 17, SIGNS = 127 }; /* one more than the last number; 0 stands for none */
 
 static const char *const keywords[KEYWORDS] = {
     [1] = "CCSDS_OPM_VERS",
@@ -73,9 +75,78 @@ static const char *const reasons[REASONS] = {
     [ODM_ASTRAY] = "the row is not in the table, or its value is not in the feed",
 };
 
+static const char *const signs[SIGNS] = {
+    [' '] = "blank",
+    ['!'] = "exclamation mark",
+    ['"'] = "quotation mark",
+    ['#'] = "hash",
+    ['$'] = "dollar",
+    ['%'] = "percent",
+    ['&'] = "ampersand",
+    ['\''] = "apostrophe",
+    ['('] = "open parenthesis",
+    [')'] = "close parenthesis",
+    ['*'] = "star",
+    ['+'] = "plus",
+    [','] = "comma",
+    ['-'] = "minus",
+    ['.'] = "point",
+    ['/'] = "slash",
+    ['0'] = "zero",
+    ['1'] = "one",
+    ['2'] = "two",
+    ['3'] = "three",
+    ['4'] = "four",
+    ['5'] = "five",
+    ['6'] = "six",
+    ['7'] = "seven",
+    ['8'] = "eight",
+    ['9'] = "nine",
+    [':'] = "colon",
+    [';'] = "semicolon",
+    ['<'] = "less than",
+    ['='] = "equals",
+    ['>'] = "greater than",
+    ['?'] = "question mark",
+    ['@'] = "at sign",
+    ['['] = "open bracket",
+    ['\\'] = "backslash",
+    [']'] = "close bracket",
+    ['^'] = "caret",
+    ['_'] = "underscore",
+    ['`'] = "backquote",
+    ['{'] = "open brace",
+    ['|'] = "vertical bar",
+    ['}'] = "close brace",
+    ['~'] = "tilde",
+};
+
 const char *keyword_word(uint32_t code) {
     if (code >= KEYWORDS || keywords[code] == NULL) return "a keyword that this console does not know";
     return keywords[code];
+}
+
+uint32_t keyword_code(const char *text) {
+    for (uint32_t code = 1; code < KEYWORDS; code++) {
+        if (strcasecmp(text, keywords[code]) == 0) return code;
+    }
+    return 0;
+}
+
+const char *unit_words(uint32_t code) {
+    if ((code >= 10 && code <= 12) || code == 16) return "kilometres";
+    if ((code >= 13 && code <= 15) || (code >= 33 && code <= 35)) return "kilometres per second";
+    if (code >= 18 && code <= 22) return "degrees";
+    if (code == 23) return "cubic kilometres per second squared";
+    if (code == 24 || code == 31) return "kilograms";
+    if (code == 25 || code == 27) return "square metres";
+    if (code == 30) return "seconds";
+    return "";
+}
+
+const char *sign_word(uint8_t byte) {
+    if (byte >= SIGNS || signs[byte] == NULL) return "a character that this console does not know";
+    return signs[byte];
 }
 
 const char *reason_words(uint32_t reason) {

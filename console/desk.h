@@ -1,0 +1,43 @@
+/* The console's desk: the one place that lends bytes to the library, and always a feed and a table that belong together. A value can be had only
+ * from a row that the library gives to a ticket, and so only from the bytes that the present load judged.
+ */
+#ifndef DESK_H
+#define DESK_H
+
+#include <stdbool.h>
+#include <stddef.h>
+#include <stdint.h>
+
+#include "odm.h"
+
+/* A load number and a row number, once a row was had for them. */
+struct ticket {
+    bool kept;
+    uint32_t load, row;
+};
+
+/* The library's answer to a ticket. */
+struct heard {
+    odm_row row;
+    const uint8_t *value; /* the row's bytes, row.length of them; NULL on a refusal */
+};
+
+/* Reads a feed file for the next load. The present load stays as it is; where the file cannot be read, so does the feed for the next load, and
+ * `error` says why, 0 where that is not known.
+ */
+bool desk_bring(const char *name, int *error);
+
+/* How many messages the feed for the next load has. */
+odm_counted desk_messages(void);
+
+/* Loads a message of the feed that was brought in last. */
+odm_placed desk_place(size_t message);
+
+/* The present load's number and row count. */
+uint32_t desk_load(void);
+uint32_t desk_rows(void);
+
+/* The row that a load number and a row number stand for. */
+struct heard desk_read(uint32_t load, uint32_t row);
+
+#endif
