@@ -11,15 +11,15 @@ run:
 
 # The console on an example, for a person: FEED=.. for another.
 console:
-	@rt staticlib odm >/dev/null
+	@host/prove.sh odm
 	@host/console.sh $(FEED)
 
 # A million generated feeds, the product against the second program; another seed each time, printed.
 fuzz:
-	@rt staticlib odm >/dev/null
+	@host/prove.sh odm
 	@host/compare.sh --seed $$(date +%s) --feeds 1000000
 
 # Times as ratios, side by side in one run.
 bench:
-	@rt staticlib odm >/dev/null
+	@host/prove.sh odm
 	@host/bench.sh

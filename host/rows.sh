@@ -1,17 +1,13 @@
 #!/usr/bin/env bash
-# The thin program on a feed: host/rows.sh FEED. It is proved and built first; on another processor than x86-64 the kit's own emulator runs it.
+# The thin program on a feed: host/rows.sh FEED. It is proved and built first where it is not yet. On another processor than x86-64 the kit's own emulator
+# runs it.
 set -eu
 cd "$(dirname "$0")/.."
 if [ $# -ne 1 ] || ! [ -r "$1" ]; then
   echo "say which feed to read: host/rows.sh FEED"
   exit 1
 fi
-mkdir -p build
-if ! rt check odm_rows >build/odm_rows.log 2>&1; then
-  tail -n 3 build/odm_rows.log
-  echo "the thin program was not built"
-  exit 1
-fi
+host/prove.sh odm_rows
 home=$(dirname "$(dirname "$(rt doc)")")
 tools=$home/on/$(uname -m)/toolchain
 emulator=
