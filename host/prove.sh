@@ -13,16 +13,18 @@ uses_of() { sed -n "s/^$1://p" crates.txt; }
 # A crate uses only those above it in crates.txt.
 needed=$(tac crates.txt | awk -F: -v name="$name" 'BEGIN { on[name] = 1 } on[$1] { print $1; n = split($2, uses, " "); for (k = 1; k <= n; k++) on[uses[k]] = 1 }' | tac)
 
-is_stale() { # whether a crate was never proved, or a file of it, or a crate that it uses, changed since
-  local mark=target/stamp/$1 use
-  [ "$1" != "$name" ] || mark=$built
+is_stale() { # whether a crate was never proved, or a file of it changed since, or a crate that it uses is stale or was proved since
+  local mark=target/stamp/$1 files=(crates.txt "crates/$1") use
+  [ "$1" != odm ] || mark=$built # the archive leaves no stamp
   [ -e "$mark" ] || return 0
   for use in $(uses_of "$1"); do
     case $stale in *" $use "*) return 0 ;; esac
+    [ ! -e "target/stamp/$use" ] || files+=("target/stamp/$use")
   done
-  [ -n "$(find crates.txt "crates/$1" -name must-fail -prune -o -type f -newer "$mark" -print -quit)" ]
+  [ -n "$(find "${files[@]}" -name must-fail -prune -o -type f -newer "$mark" -print -quit)" ]
 }
 
+[ -e "$built" ] || rm -f "target/stamp/$name"
 stale=" "
 for crate in $needed; do
   if is_stale "$crate"; then stale="$stale$crate "; fi
@@ -30,10 +32,8 @@ done
 count=$(echo "$stale" | wc -w)
 [ "$count" -gt 0 ] || exit 0
 
-about="less than a minute"
-minutes=$(((count * 14 + 59) / 60)) # a crate takes some 14 seconds on two cores
-[ "$count" -lt 4 ] || about="about $minutes minute$([ "$minutes" = 1 ] || echo s)"
-echo "proving $count crate$([ "$count" = 1 ] || echo s) first, which takes $about" >&2
+# on two cores a crate takes some 14 seconds
+echo "proving $count crate$([ "$count" = 1 ] || echo s) first, which takes about $((count * 14)) seconds" >&2
 
 log=build/prove-$name.log
 mkdir -p build
@@ -64,5 +64,6 @@ if ! prove 2>&1 | hear; then
   echo "$name was not built" >&2
   exit 1
 fi
-for crate in $needed; do touch -c "target/stamp/$crate"; done
-touch -c "$built"
+# a file that has a new time and its old contents is not looked at again
+for crate in $stale; do touch -c "target/stamp/$crate"; done
+touch "$built"
