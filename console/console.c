@@ -231,7 +231,7 @@ static const struct command {
     const char *help;
 } commands[] = {
     {"messages", NOTHING, 0, run_messages, "messages: how many messages the feed for the next load has"},
-    {"load", A_NUMBER, SIZE_MAX, run_load, "load N: load message N of it, from 1"},
+    {"load", A_NUMBER, SIZE_MAX, run_load, "load N: load message N of that feed, from 1"},
     {"rows", NOTHING, 0, run_rows, "rows: speak all rows of the present load"},
     {"row", A_NUMBER, UINT32_MAX, run_row, "row N: speak row N of the present load, from 0"},
     {"next", NOTHING, 0, run_next, "next: speak the row after the one spoken last, at first row 0"},

@@ -1,5 +1,6 @@
--- "Any bytes, any ticket, any message number get an answer, and no caller has to check first.": that there is one, the entry points' proofs show, none of
--- which has a `requires`. Here, that their promises leave one: whatever two runs on the same input hand back, and leave in the table, is the same.
+-- "Any bytes, any ticket, any message number get an answer, and no caller has to check first.": that there is an answer is what the proof of each entry
+-- point says, and none asks anything by a `requires`. Here: its promise leaves one, so what two runs on the same input hand back, and leave in the
+-- table, is the same.
 -- Assumes nothing.
 use Prim.Native.Nat.{ℕ}
 use mathlib.Core.Path.{_≡_}
