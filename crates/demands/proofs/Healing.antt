@@ -8,9 +8,9 @@ use native.Mathlib.Omega.{arith}
 use lib.Dec.{eqb}
 use lib.ListN.{length, take, drop, length-drop}
 use borrow.Author.Tests.{ne-eqb, le-ltb}
-use Rattle.lines.specs.Feed.{Line, lines, linesFrom, Starts, linesBefore, movedLine}
+use Rattle.lines.specs.Feed.{Line, lines, Starts, linesBefore, movedLine}
 use Rattle.lines.specs.declared.Span.{Span}
-use Rattle.lines.proofs.Lists.{lines-from, lines-move}
+use Rattle.lines.proofs.Lists.{lines-from, lines-shift}
 use Rattle.step.specs.Step.{freshState, stepOf}
 use Rattle.step.specs.declared.State.{State}
 use Rattle.judge.specs.Message.{isHeading, formOf, fromHeading, headings, upTo, messageOf, texts, judgeTexts, judgeLines, feedLimit, judgeOf, groupOf, rowsAt, rowsFrom, rowsLines, rowsOf}
@@ -109,10 +109,7 @@ judge-within f k h = rw (le-ltb feedLimit (length f) h, judgeOf)
 
 module _ (f : List ℕ) (q : ℕ) (s : Starts f q) where
   lines-are : lines f ≡ linesBefore q (lines f) ++ mv q (lines (drop q f))
-  lines-are =
-      let z : q ≡ q + 0 = omega arith in
-      lines-from f q s
-      ∙ ap (λ (l : List Line). linesBefore q (lines f) ++ l) (ap (λ (k : ℕ). linesFrom 0 k [] (drop q f)) z ∙ lines-move q 0 0 [] (drop q f))
+  lines-are = lines-from f q s ∙ ap (λ (l : List Line). linesBefore q (lines f) ++ l) (lines-shift q (drop q f))
 
   message-is : (j : ℕ) → 1 ≤ j → messageOf (fromThere f q j) f ≡ mv q (messageOf j (drop q f))
   unfolding messageOf

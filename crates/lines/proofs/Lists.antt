@@ -143,7 +143,7 @@ unfolding linesFrom lastLine
 move-last d e at [] = refl
 move-last d e at (b ∷ t) = refl
 
-pub lines-move : (d e at : ℕ) (t s : List ℕ) → linesFrom e (d + at) t s ≡ map (movedLine d) (linesFrom e at t s)
+lines-move : (d e at : ℕ) (t s : List ℕ) → linesFrom e (d + at) t s ≡ map (movedLine d) (linesFrom e at t s)
 lines-move d e at t [] = move-last d e at t
 lines-move d e at t (b ∷ s) =
     go (joins e b) refl (isEnd b) refl (lines-move d 0 (at + 1) t s) (lines-move d b (at + (length t + 1)) [] s) (lines-move d 0 at (t ++ (b ∷ [])) s)
@@ -163,6 +163,12 @@ lines-move d e at t (b ∷ s) =
         ∙ ap (map (movedLine d)) (sym (from-end e at b t s q r))
     go false q false r x y z = from-text e (d + at) b t s q r ∙ z ∙ ap (map (movedLine d)) (sym (from-text e at b t s q r))
 
+-- the lines from a place on are those of what stands there alone, moved
+pub lines-shift : (q : ℕ) (s : List ℕ) → linesAt q s ≡ map (movedLine q) (lines s)
+lines-shift q s =
+    let z : q ≡ q + 0 = omega arith in
+    ap (λ (k : ℕ). linesAt k s) z ∙ lines-move q 0 0 [] s
+
 -- ---- the lines from any place where one starts
 
 module _ (q : ℕ) (l : Line) (ls : List Line) where
@@ -181,9 +187,7 @@ none-moved q [] = refl
 none-moved q (l ∷ ls) = before-less q (movedLine q l) (map (movedLine q) ls) (omega arith) ∙ none-moved q ls
 
 none-before : (q : ℕ) (s : List ℕ) → linesBefore q (linesAt q s) ≡ []
-none-before q s =
-    let z : q ≡ q + 0 = omega arith in
-    ap (linesBefore q) (ap (λ (k : ℕ). linesAt k s) z ∙ lines-move q 0 0 [] s) ∙ none-moved q (linesAt 0 s)
+none-before q s = ap (linesBefore q) (lines-shift q s) ∙ none-moved q (lines s)
 
 abbrev starts : List Line → List ℕ
 starts ls = map (λ (l : Line). l .start) ls
