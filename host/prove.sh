@@ -32,8 +32,8 @@ done
 count=$(echo "$stale" | wc -w)
 [ "$count" -gt 0 ] || exit 0
 
-# on two cores a crate takes some 14 seconds
-echo "proving $count crate$([ "$count" = 1 ] || echo s) first, which takes about $((count * 14)) seconds" >&2
+# on two cores a crate takes some 14 seconds, and a program to link some 10 more
+echo "proving $count crate$([ "$count" = 1 ] || echo s) first, which takes about $((10 + count * 14)) seconds" >&2
 
 log=build/prove-$name.log
 mkdir -p build
