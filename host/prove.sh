@@ -50,20 +50,22 @@ prove() { # the archive by itself would have the crates under it proved one afte
   if [ "$name" = odm ]; then
     # shellcheck disable=SC2046
     rt check $(uses_of odm) || return
-    began=$SECONDS
+    local start=$SECONDS
     rt staticlib odm || return
-    echo "rt: odm proved ($((SECONDS - began)) s)"
+    echo "rt: odm proved ($((SECONDS - start)) s)"
   else
     rt check "$name"
   fi
 }
 
 : >"$log"
+began=build/prove-$name.began
+touch "$began"
 if ! prove 2>&1 | hear; then
   tail -n 3 "$log" >&2
   echo "$name was not built" >&2
   exit 1
 fi
-# a file that has a new time and its old contents is not looked at again
-for crate in $stale; do touch -c "target/stamp/$crate"; done
-touch "$built"
+# Marked with the time at which this began: a file with a new time and its old contents is not looked at again, and one changed meanwhile is.
+for crate in $stale; do touch -c -r "$began" "target/stamp/$crate"; done
+touch -r "$began" "$built"
