@@ -12,7 +12,8 @@ use Rattle.lines.specs.Text.{cutEnd, trimOf, heads, headingOf, wordEnds, commen
 use Rattle.values.specs.Number.{signLen, isExponent, endsNumber, afterWhole, isNumber, digitsFrom, integerTop, isInteger}
 use Rattle.epochs.specs.Epoch.{isLeap, monthDays, daysBefore, monthDay, yearDay, isClock, isFraction, timedOf, epochOf, isBefore}
 use Rattle.grammar.specs.Rows.{pick}
-use Rattle.grammar.specs.Keywords.{keywords, codeIn, keywordOf, isUnit}
+use Rattle.keywords.specs.Keywords.{keywords, codeIn}
+use Rattle.grammar.specs.Keywords.{keywordOf, isUnit}
 use Rattle.grammar.specs.Order.{nextOf, allows}
 use Rattle.step.specs.Step.{isTimely, areNumbers, dataAt, dataOf, fieldsOf, wholeOf, numberOf, pastTime, isEarly, timeOf, valueOf, assignOf, metaCode, metaOf, plainOf, pastComment, uncommentedOf, filledOf, stepOf}
 use Rattle.judge.specs.Message.{fromHeading, headings, upTo, messageOf, endOf, judgeTexts, judgeLines, judgeOf, groupOf, rowsAt, rowsFrom, rowsLines}

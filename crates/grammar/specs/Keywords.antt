@@ -1,11 +1,12 @@
--- The keywords and their codes, the kinds of their values and their units, by document 01, "Keyword codes and order" and "Values".
+-- The keywords that a message type assigns, the kinds of their values and their units, by document 01, "Keyword codes and order" and "Values".
 -- Assumes nothing.
 use Prim.Native.Nat.{ℕ}
-use mathlib.Core.List.{List, [], _∷_, _++_}
+use mathlib.Core.List.{List, [], _∷_}
 use mathlib.Core.Bool.{Bool, true, false, _||_}
 use lib.Dec.{eqb}
 use lib.ListN.{length}
 use Rattle.words.specs.Words.{bytes, isWord}
+use Rattle.keywords.specs.Keywords.{keywords, codeIn}
 use Rattle.grammar.specs.Rows.{Row, all, one, pick}
 use Rattle.grammar.specs.declared.Form.{Form}
 use Rattle.grammar.specs.declared.Form.the-variants.{Opm, Oem}
@@ -13,66 +14,6 @@ use Rattle.grammar.specs.declared.Keyword.{Keyword}
 use Rattle.grammar.specs.declared.Keyword.the-variants.{Code, Unknown}
 use Rattle.grammar.specs.declared.Kind.{Kind}
 use Rattle.grammar.specs.declared.Kind.the-variants.{Version, Text, Integer, Number, Epoch, Nothing}
-
--- a keyword and its code
-pub record Entry : Type 0 where
-  pub code : ℕ
-  pub word : List ℕ
-
-abbrev pub is : ℕ → List ℕ → Entry
-is n w = record { code = n; word = w }
-
--- the keywords that stand in assignments, in document 01's order
-unfoldable pub keywords : List Entry
-keywords =
-    is 1 (bytes "CCSDS_OPM_VERS")
-    ∷ is 2 (bytes "CREATION_DATE")
-    ∷ is 3 (bytes "ORIGINATOR")
-    ∷ is 4 (bytes "OBJECT_NAME")
-    ∷ is 5 (bytes "OBJECT_ID")
-    ∷ is 6 (bytes "CENTER_NAME")
-    ∷ is 7 (bytes "REF_FRAME")
-    ∷ is 8 (bytes "TIME_SYSTEM")
-    ∷ is 9 (bytes "EPOCH")
-    ∷ is 10 (bytes "X")
-    ∷ is 11 (bytes "Y")
-    ∷ is 12 (bytes "Z")
-    ∷ is 13 (bytes "X_DOT")
-    ∷ is 14 (bytes "Y_DOT")
-    ∷ is 15 (bytes "Z_DOT")
-    ∷ is 16 (bytes "SEMI_MAJOR_AXIS")
-    ∷ is 17 (bytes "ECCENTRICITY")
-    ∷ is 18 (bytes "INCLINATION")
-    ∷ is 19 (bytes "RA_OF_ASC_NODE")
-    ∷ is 20 (bytes "ARG_OF_PERICENTER")
-    ∷ is 21 (bytes "TRUE_ANOMALY")
-    ∷ is 22 (bytes "MEAN_ANOMALY")
-    ∷ is 23 (bytes "GM")
-    ∷ is 24 (bytes "MASS")
-    ∷ is 25 (bytes "SOLAR_RAD_AREA")
-    ∷ is 26 (bytes "SOLAR_RAD_COEFF")
-    ∷ is 27 (bytes "DRAG_AREA")
-    ∷ is 28 (bytes "DRAG_COEFF")
-    ∷ is 29 (bytes "MAN_EPOCH_IGNITION")
-    ∷ is 30 (bytes "MAN_DURATION")
-    ∷ is 31 (bytes "MAN_DELTA_MASS")
-    ∷ is 32 (bytes "MAN_REF_FRAME")
-    ∷ is 33 (bytes "MAN_DV_1")
-    ∷ is 34 (bytes "MAN_DV_2")
-    ∷ is 35 (bytes "MAN_DV_3")
-    ∷ is 36 (bytes "CCSDS_OEM_VERS")
-    ∷ is 38 (bytes "START_TIME")
-    ∷ is 39 (bytes "USEABLE_START_TIME")
-    ∷ is 40 (bytes "USEABLE_STOP_TIME")
-    ∷ is 41 (bytes "STOP_TIME")
-    ∷ is 42 (bytes "INTERPOLATION")
-    ∷ is 43 (bytes "INTERPOLATION_DEGREE")
-    ∷ []
-
--- the code of the first of some keywords that the text is; 0 where it is none of them
-unfoldable pub codeIn : List Entry → List ℕ → ℕ
-codeIn [] s = 0
-codeIn (k ∷ ks) s = elim (isWord (k .word) s) [ true ↦ k .code | false ↦ codeIn ks s ]
 
 -- the codes that a message type assigns: OPM 1 to 35; OEM 36, 2 to 8 and 38 to 43
 abbrev pub assigned : Form → List (Row Bool)
@@ -129,8 +70,3 @@ unitOf n = pick units [] n
 -- "What follows, trimmed, is empty or exactly the unit in brackets, else UNIT"
 unfoldable pub isUnit : ℕ → List ℕ → Bool
 isUnit n s = eqb (length s) 0 || isWord (unitOf n) s
-
--- some keywords as the code's table holds them: the code, the length of the word, the word
-unfoldable pub flat : List Entry → List ℕ
-flat [] = []
-flat (k ∷ ks) = k .code ∷ length (k .word) ∷ k .word ++ flat ks

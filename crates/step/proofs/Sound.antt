@@ -23,7 +23,8 @@ use Rattle.epochs.specs.Epoch.{epochOf}
 use Rattle.epochs.specs.declared.Instant.{Instant}
 use Rattle.epochs.specs.declared.Epoch.{Epoch as EpochRead}
 use Rattle.epochs.specs.declared.Epoch.the-variants.{At, Bad}
-use Rattle.grammar.specs.Keywords.{Entry, keywordOf, keywords, codeIn, assigns, kindOf, isUnit}
+use Rattle.keywords.specs.Keywords.{Entry, keywords, codeIn}
+use Rattle.grammar.specs.Keywords.{keywordOf, assigns, kindOf, isUnit}
 use Rattle.grammar.specs.declared.Form.{Form}
 use Rattle.grammar.specs.declared.Form.the-variants.{Opm, Oem}
 use Rattle.grammar.specs.declared.Keyword.{Keyword}

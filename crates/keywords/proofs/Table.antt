@@ -9,7 +9,7 @@ use native.Mathlib.Omega.{arith}
 use lib.ListN.{length, getD, take, drop, length-drop, length-append, drop-of-length-le}
 use lib.Seq.{getD-drop, drop-drop, take-append-seam, drop-append-seam}
 use Rattle.words.specs.Words.{isWord}
-use Rattle.grammar.specs.Keywords.{Entry, keywords, codeIn, flat}
+use Rattle.keywords.specs.Keywords.{Entry, keywords, codeIn, flat}
 
 -- from `i` on the table holds some keywords, and the text's code is its code among these
 pub record Left (table text : List ℕ) (i : ℕ) : Type 0 where

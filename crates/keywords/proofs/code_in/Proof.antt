@@ -1,13 +1,13 @@
--- `grammar::code_in` meets its contract: from the place on, the table holds some keywords, and the text's code is its code among these.
+-- `keywords::code_in` meets its contract: from the place on, the table holds some keywords, and the text's code is its code among these.
 -- Assumes nothing.
 use Prim.Native.Nat.{_+_, _-_}
 use mathlib.Core.Path.{sym, _∙_}
 use native.Mathlib.Omega.{arith}
 use lib.ListN.{length}
 use borrow.Author.Needs.{needs}
-use Rattle.grammar.proofs.Table.{Left, start, turn, done}
-use Rattle.grammar.proofs.code_in.Statement.{statement}
-use Rattle.grammar.proofs.code_in.Tie as tie
+use Rattle.keywords.proofs.Table.{Left, start, turn, done}
+use Rattle.keywords.proofs.code_in.Statement.{statement}
+use Rattle.keywords.proofs.code_in.Tie as tie
 
 abbrev Inv-loop : tie.InvT-loop
 Inv-loop table text i₀ i = Left table text i
