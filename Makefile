@@ -19,7 +19,7 @@ fuzz:
 	@host/prove.sh odm
 	@host/compare.sh --seed $$(date +%s) --feeds 1000000
 
-# Times as ratios, side by side in one run.
+# Times as ratios, side by side in one run: BEFORE=COMMIT has the archive of an earlier commit beside them.
 bench:
 	@host/prove.sh odm
 	@host/bench.sh

@@ -1,4 +1,5 @@
-//! Times as ratios: the product's archive against the second program and against a bare scan for line ends, interleaved in one run.
+//! Times as ratios: the product's archive against the second program, against a bare scan for line ends and, where it is built with `--cfg before`,
+//! against the archive of an earlier landing, interleaved in one run. `bench count WAY FEED TIMES` runs one of them alone, for a counter of instructions.
 #[path = "../second/src/judge/mod.rs"]
 #[allow(dead_code, unused_imports)]
 mod judge;
@@ -13,17 +14,30 @@ struct Judged {
     rows: u32,
 }
 
+type Judge = unsafe extern "C" fn(*const u8, usize, usize) -> Judged;
+
 extern "C" {
     fn odm_judge(feed: *const u8, length: usize, message: usize) -> Judged;
+    #[cfg(before)]
+    fn before_odm_judge(feed: *const u8, length: usize, message: usize) -> Judged;
 }
 
-fn product(feed: &[u8], messages: &[usize]) -> u64 {
+fn asked(judge: Judge, feed: &[u8], messages: &[usize]) -> u64 {
     let mut sum = 0;
     for &message in messages {
-        let answer = unsafe { odm_judge(feed.as_ptr(), feed.len(), message) };
+        let answer = unsafe { judge(feed.as_ptr(), feed.len(), message) };
         sum += u64::from(answer.reason + answer.line + answer.rows);
     }
     sum
+}
+
+fn product(feed: &[u8], messages: &[usize]) -> u64 {
+    asked(odm_judge, feed, messages)
+}
+
+#[cfg(before)]
+fn before(feed: &[u8], messages: &[usize]) -> u64 {
+    asked(before_odm_judge, feed, messages)
 }
 
 /// Asked as the product is asked: a feed and a message number a call, with nothing kept between calls.
@@ -48,6 +62,17 @@ fn scan(feed: &[u8], messages: &[usize]) -> u64 {
     }
     endings
 }
+
+type Way = fn(&[u8], &[usize]) -> u64;
+
+/// The product first: the others' times are what its own is held against.
+const WAYS: &[(&str, Way)] = &[
+    ("product", product),
+    #[cfg(before)]
+    ("before", before),
+    ("second", second),
+    ("scan", scan),
+];
 
 fn head() -> String {
     "CCSDS_OEM_VERS = 1.0\nCREATION_DATE = 2000-01-01T00:00:00\nORIGINATOR = BENCH\nMETA_START\nOBJECT_NAME = A\nOBJECT_ID = B\nCENTER_NAME = EARTH\nREF_FRAME = ICRF\nTIME_SYSTEM = UTC\nSTART_TIME = 2000-001T00:00:00\nSTOP_TIME = 2000-366T00:00:00\nMETA_STOP\n".to_string()
@@ -82,12 +107,42 @@ fn state_messages(length: usize) -> (Vec<u8>, Vec<usize>) {
     (one.repeat(count).into_bytes(), (1..=count).collect())
 }
 
+/// One OPM of keyword lines alone: a state and its maneuvers, as near to a length as whole sets go.
+fn maneuvers(length: usize) -> Vec<u8> {
+    let set = "MAN_EPOCH_IGNITION = 2000-06-03T09:00:34.1\nMAN_DURATION = 132.60 [S]\nMAN_DELTA_MASS = -18.418 [KG]\nMAN_REF_FRAME = EME2000\nMAN_DV_1 = -0.02325700 [KM/S]\nMAN_DV_2 = 0.01683160 [KM/S]\nMAN_DV_3 = -0.00893444 [KM/S]\n";
+    let mut text = state_message();
+    while text.len() + set.len() <= length {
+        text.push_str(set);
+    }
+    text.into_bytes()
+}
+
+struct Feed {
+    name: &'static str,
+    bytes: Vec<u8>,
+    messages: Vec<usize>,
+    calls: usize,
+}
+
+fn feeds() -> Vec<Feed> {
+    let whole = ephemeris(65_535);
+    let mut damaged = whole.clone();
+    let last = damaged.len() - 2;
+    damaged[last] = b'x';
+    let (states, numbers) = state_messages(65_535);
+    vec![
+        Feed { name: "64 KB ephemeris", bytes: whole, messages: vec![1], calls: 20 },
+        Feed { name: "64 KB of state messages, each judged", bytes: states, messages: numbers, calls: 1 },
+        Feed { name: "a state message alone", bytes: state_message().into_bytes(), messages: vec![1], calls: 2000 },
+        Feed { name: "64 KB of keyword lines in one message", bytes: maneuvers(65_535), messages: vec![1], calls: 20 },
+        Feed { name: "64 KB ephemeris refused at its last line", bytes: damaged, messages: vec![1], calls: 20 },
+    ]
+}
+
 fn median(mut times: Vec<f64>) -> f64 {
     times.sort_by(|a, b| a.partial_cmp(b).unwrap());
     times[times.len() / 2]
 }
-
-type Way = fn(&[u8], &[usize]) -> u64;
 
 /// Seconds a call, the median of rounds in which each way takes its turn.
 fn measure(feed: &[u8], messages: &[usize], ways: &[Way], rounds: usize, calls: usize) -> Vec<f64> {
@@ -104,31 +159,6 @@ fn measure(feed: &[u8], messages: &[usize], ways: &[Way], rounds: usize, calls: 
     times.into_iter().map(median).collect()
 }
 
-fn main() {
-    let whole = ephemeris(65_535);
-    let mut damaged = whole.clone();
-    let last = damaged.len() - 2;
-    damaged[last] = b'x';
-    let (states, numbers) = state_messages(65_535);
-    println!("medians of interleaved rounds; a ratio above 1 means that the product is slower");
-    for (name, feed, messages, calls) in [
-        ("64 KB ephemeris", &whole, vec![1], 20),
-        ("64 KB of state messages, each judged", &states, numbers, 1),
-        ("64 KB ephemeris refused at its last line", &damaged, vec![1], 20),
-    ] {
-        let times = measure(feed, &messages, &[product, second, scan], 15, calls);
-        println!("{}: {:.0} microseconds", name, times[0] * 1e6);
-        println!("  against the second program: {:.2}", times[0] / times[1]);
-        println!("  against a bare scan for line ends: {:.2}", times[0] / times[2]);
-    }
-    println!("growth from 4 KB, per byte, doubling:");
-    let feeds: Vec<Vec<u8>> = (0..5).map(|doubling| ephemeris(((4 * 1024) << doubling).min(65_535))).collect();
-    let times = growth(&feeds, 61);
-    for (feed, time) in feeds.iter().zip(&times) {
-        println!("  {} bytes: {:.2}", feed.len(), time / times[0]);
-    }
-}
-
 /// Seconds a byte of each feed, the median of rounds in which each feed takes its turn, so that a machine that slows down slows all alike.
 fn growth(feeds: &[Vec<u8>], rounds: usize) -> Vec<f64> {
     let mut times = vec![Vec::new(); feeds.len()];
@@ -139,4 +169,46 @@ fn growth(feeds: &[Vec<u8>], rounds: usize) -> Vec<f64> {
         }
     }
     times.into_iter().map(median).collect()
+}
+
+fn times() {
+    let ways: Vec<Way> = WAYS.iter().map(|way| way.1).collect();
+    println!("medians of interleaved rounds; a ratio above 1 means that the product is slower");
+    for feed in feeds() {
+        let times = measure(&feed.bytes, &feed.messages, &ways, 41, feed.calls);
+        println!("{}: {:.1} microseconds", feed.name, times[0] * 1e6);
+        for (way, time) in WAYS.iter().zip(&times).skip(1) {
+            let against = match way.0 {
+                "before" => "the landing before",
+                "second" => "the second program",
+                _ => "a bare scan for line ends",
+            };
+            println!("  against {}: {:.2}", against, times[0] / time);
+        }
+    }
+    println!("growth from 4 KB, per byte, doubling:");
+    let feeds: Vec<Vec<u8>> = (0..5).map(|doubling| ephemeris(((4 * 1024) << doubling).min(65_535))).collect();
+    let times = growth(&feeds, 61);
+    for (feed, time) in feeds.iter().zip(&times) {
+        println!("  {} bytes: {:.2}", feed.len(), time / times[0]);
+    }
+}
+
+/// One way on one feed, so many times over: what a counter of instructions is run on.
+fn count(way: &str, feed: usize, calls: usize) {
+    let way = WAYS.iter().find(|known| known.0 == way).expect("no such way").1;
+    let feed = feeds().swap_remove(feed);
+    for _ in 0..calls {
+        black_box(way(black_box(&feed.bytes), &feed.messages));
+    }
+    println!("{}\t{}", feed.bytes.len(), feed.name);
+}
+
+fn main() {
+    let words: Vec<String> = std::env::args().skip(1).collect();
+    match words.as_slice() {
+        [] => times(),
+        [word, way, feed, calls] if word == "count" => count(way, feed.parse().unwrap(), calls.parse().unwrap()),
+        _ => panic!("bench, or bench count WAY FEED TIMES"),
+    }
 }

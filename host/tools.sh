@@ -1,9 +1,10 @@
-# Sourced by the gate and the Makefile: which compilers build for the archive's processor (x86-64), and what runs their programs here.
+# Sourced by the gate and the Makefile: which compilers build for the archive's processor (x86-64), what runs their programs here, and what stands before
+# the names of the tools on archives.
 # On another processor they are Debian's cross compilers and its user-mode emulator, installed where they are missing.
 if [ "$(uname -m)" = x86_64 ]; then
-  CC=${CC:-gcc} CXX=${CXX:-g++} RUN=
+  CC=${CC:-gcc} CXX=${CXX:-g++} RUN= CROSS=
 else
-  CC=x86_64-linux-gnu-gcc CXX=x86_64-linux-gnu-g++ RUN=qemu-x86_64
+  CC=x86_64-linux-gnu-gcc CXX=x86_64-linux-gnu-g++ RUN=qemu-x86_64 CROSS=x86_64-linux-gnu-
 fi
 
 host_tools() { # install what is missing

@@ -3,6 +3,7 @@
 use Prim.Native.Nat.{ℕ}
 use mathlib.Core.List.{List, [], _∷_, _++_}
 use mathlib.Core.Bool.{true, false}
+use lib.Dec.{eqb}
 use lib.ListN.{length}
 use Rattle.words.specs.Words.{bytes, isWord}
 
@@ -66,7 +67,12 @@ unfoldable pub codeIn : List Entry → List ℕ → ℕ
 codeIn [] s = 0
 codeIn (k ∷ ks) s = elim (isWord (k .word) s) [ true ↦ k .code | false ↦ codeIn ks s ]
 
--- some keywords as the code's table holds them: the code, the length of the word, the word
+-- the keywords of one length, in their order
+unfoldable pub sized : ℕ → List Entry → List Entry
+sized n [] = []
+sized n (k ∷ ks) = elim (eqb n (length (k .word))) [ true ↦ k ∷ sized n ks | false ↦ sized n ks ]
+
+-- some keywords as the code's table holds them: the code, the word
 unfoldable pub flat : List Entry → List ℕ
 flat [] = []
-flat (k ∷ ks) = k .code ∷ length (k .word) ∷ k .word ++ flat ks
+flat (k ∷ ks) = k .code ∷ k .word ++ flat ks

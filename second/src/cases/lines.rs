@@ -221,3 +221,19 @@ pub(super) fn keywords(book: &mut Book) {
     book.falls("a second sign does not help", opm().put(10, "W=X=1"), Keyword, 10);
     book.falls("a period before the keyword", opm().put(10, ".X=1"), Keyword, 10);
 }
+
+/// Each keyword with one letter wrong, one short and one more.
+pub(super) fn misspelt(book: &mut Book) {
+    const WORDS: &str = "CCSDS_OPM_VERS CREATION_DATE ORIGINATOR OBJECT_NAME OBJECT_ID CENTER_NAME REF_FRAME TIME_SYSTEM EPOCH X Y Z X_DOT Y_DOT Z_DOT \
+        SEMI_MAJOR_AXIS ECCENTRICITY INCLINATION RA_OF_ASC_NODE ARG_OF_PERICENTER TRUE_ANOMALY MEAN_ANOMALY GM MASS SOLAR_RAD_AREA SOLAR_RAD_COEFF \
+        DRAG_AREA DRAG_COEFF MAN_EPOCH_IGNITION MAN_DURATION MAN_DELTA_MASS MAN_REF_FRAME MAN_DV_1 MAN_DV_2 MAN_DV_3 CCSDS_OEM_VERS META_START \
+        START_TIME USEABLE_START_TIME USEABLE_STOP_TIME STOP_TIME INTERPOLATION INTERPOLATION_DEGREE META_STOP COMMENT";
+    for word in WORDS.split(' ') {
+        let spoilt = |at: usize, mark: char| format!("{}{mark}{}", &word[..at], &word[at + 1..]);
+        let last = word.len() - 1;
+        for text in [spoilt(0, '7'), spoilt(last / 2, '8'), spoilt(last, '9'), word[..last].to_string(), format!("{word}9")] {
+            book.falls(&format!("{text:?} for {word} in an OPM"), opm().put(10, format!("{text}=1")), Keyword, 10);
+            book.falls(&format!("{text:?} for {word} in an OEM"), oem().insert(10, format!("{text}=1")), Keyword, 10);
+        }
+    }
+}

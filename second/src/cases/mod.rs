@@ -48,6 +48,7 @@ pub fn all() -> Vec<Case> {
     lines::marks(&mut book);
     lines::forms(&mut book);
     lines::keywords(&mut book);
+    lines::misspelt(&mut book);
     orders::opm_order(&mut book);
     orders::oem_order(&mut book);
     orders::first_reasons(&mut book);

@@ -1,21 +1,73 @@
--- `keywords::code_of` meets its contract: the code's table is the keywords laid end to end, by computation; the rest is its callee's.
+-- `keywords::code_of` meets its contract: each arm holds the keywords of its length, and no keyword has another length, both by computation.
 -- Assumes nothing.
 use mathlib.Core.Path.{refl}
+use mathlib.Core.List.{List, [], _∷_}
+use Prim.Native.Nat.{ℕ}
+use native.Mathlib.Omega.{arith}
 use Rattle.words.specs.Words.{bytes}
-use Rattle.keywords.specs.Keywords.{keywords, flat}
+use Rattle.keywords.specs.Keywords.{keywords, sized, flat}
 use borrow.Author.Needs.{needs}
+use Rattle.keywords.proofs.Group.{none}
+use Rattle.keywords.proofs.Table.{of-length, among, cover, absent}
 use Rattle.keywords.proofs.code_of.Statement.{statement}
 use Rattle.keywords.proofs.code_of.Tie as tie
 
-slice-aggregate-code-in : tie.Need-slice-aggregate-code-in
-slice-aggregate-code-in c = search needs
+-- the arms' lengths, the last one first
+abbrev lengths : List ℕ
+lengths = 20 ∷ 18 ∷ 17 ∷ 15 ∷ 14 ∷ 13 ∷ 12 ∷ 11 ∷ 10 ∷ 9 ∷ 8 ∷ 5 ∷ 4 ∷ 2 ∷ 1 ∷ []
 
-code-in-requires : tie.Need-code-in-requires
-unfolding flat keywords bytes
-code-in-requires c κs = refl
-
-returns : tie.Need-returns
-returns c = search needs
+rest : tie.Need-returns-16
+unfolding among cover keywords bytes
+rest c = none _ keywords (absent lengths keywords _ (c .match .rest) refl)
 
 pub code-of-spec : {M : Type 1} → statement M
-code-of-spec = tie.close (tie.spec slice-aggregate-code-in code-in-requires returns)
+unfolding flat sized keywords bytes
+code-of-spec =
+    tie.close
+    (tie.spec
+    (λ c. search needs)
+    (λ c κs. of-length 1 (omega arith))
+    (λ c. search needs)
+    (λ c κs. of-length 2 (omega arith))
+    (λ c. search needs)
+    (λ c κs. of-length 4 (omega arith))
+    (λ c. search needs)
+    (λ c κs. of-length 5 (omega arith))
+    (λ c. search needs)
+    (λ c κs. of-length 8 (omega arith))
+    (λ c. search needs)
+    (λ c κs. of-length 9 (omega arith))
+    (λ c. search needs)
+    (λ c κs. of-length 10 (omega arith))
+    (λ c. search needs)
+    (λ c κs. of-length 11 (omega arith))
+    (λ c. search needs)
+    (λ c κs. of-length 12 (omega arith))
+    (λ c. search needs)
+    (λ c κs. of-length 13 (omega arith))
+    (λ c. search needs)
+    (λ c κs. of-length 14 (omega arith))
+    (λ c. search needs)
+    (λ c κs. of-length 15 (omega arith))
+    (λ c. search needs)
+    (λ c κs. of-length 17 (omega arith))
+    (λ c. search needs)
+    (λ c κs. of-length 18 (omega arith))
+    (λ c. search needs)
+    (λ c κs. of-length 20 (omega arith))
+    (λ c. search needs)
+    (λ c. search needs)
+    (λ c. search needs)
+    (λ c. search needs)
+    (λ c. search needs)
+    (λ c. search needs)
+    (λ c. search needs)
+    (λ c. search needs)
+    (λ c. search needs)
+    (λ c. search needs)
+    (λ c. search needs)
+    (λ c. search needs)
+    (λ c. search needs)
+    (λ c. search needs)
+    (λ c. search needs)
+    rest)
