@@ -20,6 +20,7 @@ rest : tie.Need-returns-16
 unfolding among cover keywords bytes
 rest c = none _ keywords (absent lengths keywords _ (c .match .rest) refl)
 
+-- for each arm, that its table is a slice and that it holds the keywords of its length; then for each arm that its callee's answer is its own
 pub code-of-spec : {M : Type 1} → statement M
 unfolding flat sized keywords bytes
 code-of-spec =
