@@ -8,7 +8,7 @@ host_tools
 mkdir -p build
 ways=(product second)
 flags=(--edition 2021 -C opt-level=3 -C "link-arg=$PWD/build/libodm-bench.a")
-# Each function of an archive starts on a cache line: where a linker happens to put a loop is worth 15 hundredths of the time, more than most changes are.
+# Each function of an archive starts on a cache line: where a linker happens to put a loop is worth up to 17 hundredths of the time (bench/README.md).
 align() { "${CROSS}objcopy" --set-section-alignment '.text*=64' "$@"; }
 align target/staticlib/libodm.a build/libodm-bench.a
 if [ -n "${BEFORE:-}" ]; then
