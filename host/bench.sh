@@ -39,6 +39,10 @@ fi
 $RUN build/bench
 
 # Instructions: what three runs over a feed take more than one does, so that the feed's making does not count. They don't hang on the machine's speed.
+if [ -z "$RUN" ] && ! command -v valgrind >/dev/null; then
+  echo "installing valgrind"
+  { apt-get update && DEBIAN_FRONTEND=noninteractive apt-get install -y valgrind; } >/dev/null 2>&1 || true
+fi
 if [ -n "$RUN" ] || ! command -v valgrind >/dev/null; then
   echo "instructions are not counted: that takes valgrind on an x86-64 machine"
   exit 0
