@@ -1,6 +1,6 @@
 -- `keywords::code_in` meets its contract: from the place on, the group holds keywords of the text's length, and the text's code is its code among these.
 -- Assumes nothing.
-use Prim.Native.Nat.{_+_, _-_}
+use Prim.Native.Nat.{_-_}
 use mathlib.Core.Path.{sym, _∙_}
 use native.Mathlib.Omega.{arith}
 use lib.ListN.{length}
