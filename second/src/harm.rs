@@ -1,13 +1,14 @@
 //! Damages feeds: drafts line by line, and written feeds byte by byte.
 
-use crate::clock::{DAY, SECOND};
+use crate::clock::{any_part, Days, Time, DAY, SECOND};
 use crate::dice::Dice;
-use crate::make::{any_number, any_text, line_text, oem, opm, Draft, Ending, Line, Part, ENDINGS};
+use crate::make::{any_number, any_text, line_text, oem, opm, Draft, Ending, Line, Part, ENDINGS, OTHER_SYSTEMS};
 
 /// Ways to damage a draft; each does nothing where it finds nothing to damage.
-const HARMS: [fn(&mut Draft, &mut Dice); 20] = [
+const HARMS: [fn(&mut Draft, &mut Dice); 24] = [
     drop_line, double_line, swap_lines, move_line, change_word, change_value, change_value, change_unit, change_unit, change_time,
     change_time, cut_message, add_comment, lengthen_line, spoil_byte, add_formless, add_heading, change_mark, change_fields, add_stranger,
+    stray_sixty, leave_utc, wrong_sixty, move_to_sixty,
 ];
 
 /// Damages a draft in one way.
@@ -102,10 +103,11 @@ const NUMBERS: [&str; 32] = [
     "1234567890.123456", "1234567890.1234567", "1.5E3", "1.5e+003", "1.5E0003", "1.5E", "15E3", "1.E3", ".5E3", "1.5e-999", "1.5E+1000",
     "1.123456789012345E1", "1.1234567890123456E1", "-9.999999999999999E+99", "1.5d3", "Infinity", "+-1", "5[KM]", "5 5", "",
 ];
-const EPOCHS: [&str; 36] = [
+const EPOCHS: [&str; 41] = [
     "2000-02-29T00:00:00", "1900-02-29T00:00:00", "2100-02-29T00:00:00", "2001-02-29T00:00:00", "2000-366T00:00:00", "2001-366T00:00:00",
     "1900-366T00:00:00", "2000-367T00:00:00", "2001-000T00:00:00", "2000-01-01T24:00:00", "2000-01-01T23:60:00", "2000-01-01T23:59:60",
-    "2000-001T24:00:00", "2000-001T23:59:60", "2000-01-01T23:59:59.999999999", "2000-01-01T23:59:59.9999999999", "2000-01-01T00:00:00.",
+    "2000-001T24:00:00", "2000-001T23:59:60", "2000-01-01T23:59:60.5", "2000-366T23:59:60.1234567890", "2000-01-01T22:59:60",
+    "2000-001T23:58:60", "2000-01-01T23:59:61", "2000-01-01T23:59:59.999999999", "2000-01-01T23:59:59.9999999999", "2000-01-01T00:00:00.",
     "2000-01-01T00:00:00Z", "2000-01-01T00:00:00.5 ", "2000-01-01 00:00:00", "2000-1-1T00:00:00", "2000-1T00:00:00", "0000-01-01T00:00:00",
     "0000-001T00:00:00", "0001-01-01T00:00:00", "9999-12-31T23:59:59", "2000-00-01T00:00:00", "2000-13-01T00:00:00", "2000-01-00T00:00:00",
     "2000-01-32T00:00:00", "2000-04-31T00:00:00", "2000-04-30T00:00:00", "2451534.29812", "2000-01-01t00:00:00", "2000-01-01T00:00:00 [S]",
@@ -115,7 +117,7 @@ const INTEGERS: [&str; 14] = [
     "2147483647", "2147483648", "-2147483648", "-2147483649", "+007", "7 7", "0x10", "7.0", "1e1", "", "-", "99999999999999999999",
     "000000000000000000000007", "7 [KM]",
 ];
-const TEXTS: [&str; 10] = ["", "1.0", "1.00", "2.0", "+1.0", "A = B", "[KM]", "5 [KM]", "~", "COMMENT"];
+const TEXTS: [&str; 12] = ["", "1.0", "1.00", "2.0", "+1.0", "A = B", "[KM]", "5 [KM]", "~", "COMMENT", "UTC", "TAI"];
 
 /// A value for a line with this code, or one for any other.
 fn any_value(dice: &mut Dice, code: u16) -> String {
@@ -188,14 +190,111 @@ fn change_time(draft: &mut Draft, dice: &mut Dice) {
     }
     let step = dice.pick(&[0, 0, 1, SECOND, 60 * SECOND, DAY]);
     let other = dice.pick(&times);
-    let time = if dice.percent(50) { other.plus(step) } else { other.minus(step) };
+    let days = dice.pick(&[Days::Plain, Days::Long]);
+    let time = if dice.percent(50) { other.plus(days, step) } else { other.minus(days, step) };
     let Some(line) = any_line(lines, dice, |line| line.time.is_some()) else { return };
-    let text = time.any_text(dice);
+    set_time(line, time, dice);
+}
+
+/// Gives a line another time, written in either form.
+fn set_time(line: &mut Line, time: Time, dice: &mut Dice) {
+    line.time = Some(time);
+    set_epoch(line, time.any_text(dice));
+}
+
+fn set_epoch(line: &mut Line, text: String) {
     match &mut line.part {
         Part::Assign { value, .. } => *value = text,
         Part::Data(fields) if !fields.is_empty() => fields[0] = text,
         _ => {}
     }
+}
+
+/// Second 60 of a time's day, with or without a fraction.
+fn sixty_of(time: Time, dice: &mut Dice) -> Time {
+    time.in_day(DAY + any_part(dice))
+}
+
+/// The time system that a line names.
+fn system_named(line: &Line) -> Option<&str> {
+    match &line.part {
+        Part::Assign { word, value, .. } if word == "TIME_SYSTEM" => Some(value),
+        _ => None,
+    }
+}
+
+/// For each line whether the system named last is UTC.
+fn under_utc(lines: &[Line]) -> Vec<bool> {
+    let mut utc = false;
+    let under = |line| {
+        utc = system_named(line).map_or(utc, |system| system == "UTC");
+        utc
+    };
+    lines.iter().map(under).collect()
+}
+
+/// The place and time of a line that has one and passes the test.
+fn any_timed(lines: &[Line], dice: &mut Dice, test: impl Fn(usize, u16, Time) -> bool) -> Option<(usize, Time)> {
+    let timed = (0..lines.len()).filter_map(|at| lines[at].time.map(|time| (at, time)));
+    let mut found: Vec<(usize, Time)> = timed.filter(|(at, time)| test(*at, lines[*at].code, *time)).collect();
+    let last = lines[found.last()?.0].group;
+    // A later segment has more systems before it that may be taken for its own.
+    if dice.percent(50) {
+        found.retain(|(at, _)| lines[*at].group == last);
+    }
+    // Every code is as likely, though data lines are many.
+    let mut codes: Vec<u16> = found.iter().map(|(at, _)| lines[*at].code).collect();
+    codes.sort_unstable();
+    codes.dedup();
+    let code = dice.pick(&codes);
+    found.retain(|(at, _)| lines[*at].code == code);
+    Some(dice.pick(&found))
+}
+
+/// Puts second 60, at its right clock, where the time system is not UTC.
+fn stray_sixty(draft: &mut Draft, dice: &mut Dice) {
+    let lines = any_message(draft, dice);
+    let utc = under_utc(lines);
+    let Some((at, time)) = any_timed(lines, dice, |at, code, _| code != 2 && !utc[at]) else { return };
+    let time = sixty_of(time, dice);
+    set_time(&mut lines[at], time, dice);
+}
+
+/// Names another system than UTC before an epoch at second 60; if there is none, one is put there.
+fn leave_utc(draft: &mut Draft, dice: &mut Dice) {
+    let lines = any_message(draft, dice);
+    let utc = under_utc(lines);
+    let told = |at: usize, code: u16| code != 2 && utc[at];
+    let found = any_timed(lines, dice, |at, code, time| told(at, code) && time.is_at_second_60());
+    let Some((at, time)) = found.or_else(|| any_timed(lines, dice, |at, code, _| told(at, code))) else { return };
+    if found.is_none() {
+        let time = sixty_of(time, dice);
+        set_time(&mut lines[at], time, dice);
+    }
+    let system = lines[..at].iter_mut().rev().find(|line| system_named(line).is_some());
+    if let Some(Line { part: Part::Assign { value, .. }, .. }) = system {
+        *value = dice.pick(&OTHER_SYSTEMS).to_string();
+    }
+}
+
+/// Clocks with a second 60 that is not at 23:59, or with a second past it.
+const WRONG_CLOCKS: [&str; 11] =
+    ["22:59:60", "23:58:60", "00:00:60", "12:59:60", "23:00:60", "03:59:60", "24:59:60", "23:60:60", "23:59:61", "23:59:69", "23:59:99"];
+
+fn wrong_sixty(draft: &mut Draft, dice: &mut Dice) {
+    let lines = any_message(draft, dice);
+    let Some((at, time)) = any_timed(lines, dice, |_, _, _| true) else { return };
+    let text = sixty_of(time, dice).any_text(dice).replace("23:59:60", dice.pick(&WRONG_CLOCKS));
+    set_epoch(&mut lines[at], text);
+}
+
+/// Moves a time to second 60 of its day where that may stand; the order of times may suffer.
+fn move_to_sixty(draft: &mut Draft, dice: &mut Dice) {
+    let lines = any_message(draft, dice);
+    let utc = under_utc(lines);
+    let Some((at, time)) = any_timed(lines, dice, |at, code, _| code == 2 || utc[at]) else { return };
+    let time = sixty_of(time, dice);
+    set_time(&mut lines[at], time, dice);
 }
 
 fn cut_message(draft: &mut Draft, dice: &mut Dice) {
@@ -354,6 +453,7 @@ pub fn fill(draft: &mut Draft, dice: &mut Dice, written: usize, wanted: usize) {
 #[cfg(test)]
 mod tests {
     use super::*;
+    use crate::judge::{judge, Answer, Reason};
     use crate::make::{draft, write};
 
     #[test]
@@ -367,6 +467,46 @@ mod tests {
                 harm(&mut sound, &mut dice);
                 write(&sound, &mut dice);
             }
+        }
+    }
+
+    /// What sound messages of one type come to by a harm, each with whether the harm found something to do.
+    fn harmed(harm: fn(&mut Draft, &mut Dice), make: fn(&mut Dice) -> Vec<Line>, seed: u64) -> Vec<(bool, Option<Reason>)> {
+        let one = |turn| {
+            let mut dice = Dice::new(seed, turn);
+            let mut draft = Draft { before: Vec::new(), messages: vec![make(&mut dice)], ending: Ending::Always(b"\n"), open_end: false };
+            let before = write(&draft, &mut dice).feed;
+            harm(&mut draft, &mut dice);
+            let after = write(&draft, &mut dice).feed;
+            let reason = match judge(&after, 1) {
+                Answer::Accepted(_) => None,
+                Answer::Refused { reason, .. } => Some(reason),
+            };
+            (before != after, reason)
+        };
+        (0..300).map(one).collect()
+    }
+
+    #[test]
+    fn a_second_60_out_of_place_is_a_wrong_value() {
+        let seed = 31;
+        for make in [opm, oem] {
+            for harm in [stray_sixty, leave_utc, wrong_sixty] {
+                let answers = harmed(harm, make, seed);
+                let right = |(changed, reason): &(bool, Option<Reason>)| *reason == changed.then_some(Reason::Value);
+                assert!(answers.iter().all(right), "seed {seed}");
+                assert!(answers.iter().filter(|(changed, _)| *changed).count() > 100, "seed {seed}");
+            }
+        }
+    }
+
+    #[test]
+    fn a_move_to_second_60_breaks_the_order_of_times_at_most() {
+        let seed = 37;
+        for make in [opm, oem] {
+            let answers = harmed(move_to_sixty, make, seed);
+            assert!(answers.iter().all(|(_, reason)| matches!(reason, None | Some(Reason::TimeOrder))), "seed {seed}");
+            assert!(answers.iter().filter(|(changed, reason)| *changed && reason.is_none()).count() > 50, "seed {seed}");
         }
     }
 

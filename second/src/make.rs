@@ -1,7 +1,7 @@
 //! Makes sound feeds, with all optional parts varied, and foretells the rows of each message.
 //! The keywords and units stand here a second time, so that a slip in the judge's list shows.
 
-use crate::clock::{any_time, Time, DAY, SECOND};
+use crate::clock::{any_time, day_end, Days, Time, SECOND};
 use crate::dice::Dice;
 use crate::judge::Row;
 
@@ -51,7 +51,7 @@ pub struct Draft {
 pub const ENDINGS: [&[u8]; 4] = [b"\n", b"\r", b"\r\n", b"\n\r"];
 
 const HEADER: [(u16, &str); 2] = [(2, "CREATION_DATE"), (3, "ORIGINATOR")];
-const OBJECT: [(u16, &str); 5] = [(4, "OBJECT_NAME"), (5, "OBJECT_ID"), (6, "CENTER_NAME"), (7, "REF_FRAME"), (8, "TIME_SYSTEM")];
+const OBJECT: [(u16, &str); 4] = [(4, "OBJECT_NAME"), (5, "OBJECT_ID"), (6, "CENTER_NAME"), (7, "REF_FRAME")];
 const STATE: [(u16, &str, &str); 6] =
     [(10, "X", "[KM]"), (11, "Y", "[KM]"), (12, "Z", "[KM]"), (13, "X_DOT", "[KM/S]"), (14, "Y_DOT", "[KM/S]"), (15, "Z_DOT", "[KM/S]")];
 const KEPLER: [(u16, &str, &str); 5] = [
@@ -91,6 +91,8 @@ struct Maker<'d> {
     gaps: usize,
     /// Whether blanks are strewn freely.
     loose: bool,
+    /// Which days the time system has that was named last; a creation date may stand at second 60 under any.
+    days: Days,
 }
 
 impl<'d> Maker<'d> {
@@ -98,7 +100,7 @@ impl<'d> Maker<'d> {
         let comments = dice.pick(&[0, 0, 5, 20]);
         let gaps = dice.pick(&[0, 5, 30]);
         let loose = dice.percent(50);
-        Maker { dice, lines: Vec::new(), group: 0, comments, gaps, loose }
+        Maker { dice, lines: Vec::new(), group: 0, comments, gaps, loose, days: Days::Long }
     }
 
     fn add(&mut self, code: u16, part: Part, time: Option<Time>) {
@@ -154,13 +156,16 @@ impl<'d> Maker<'d> {
     /// The heading and the two lines after it; no comment stands before a heading.
     fn header(&mut self, code: u16, word: &str) {
         self.add(code, assigned(word, "1.0".to_string(), ""), None);
-        let time = any_time(self.dice);
+        let time = any_time(self.dice, Days::Long);
         self.epoch(HEADER[0].0, HEADER[0].1, time);
         self.text(HEADER[1].0, HEADER[1].1);
     }
 
     fn object(&mut self) {
         OBJECT.iter().for_each(|(code, word)| self.text(*code, word));
+        let system = any_system(self.dice);
+        self.days = if system == "UTC" { Days::Long } else { Days::Plain };
+        self.assign(8, "TIME_SYSTEM", system, "");
     }
 
     fn kepler(&mut self) {
@@ -173,7 +178,7 @@ impl<'d> Maker<'d> {
     fn burn(&mut self) {
         self.strew(true);
         self.group += 1;
-        let time = any_time(self.dice);
+        let time = any_time(self.dice, self.days);
         let value = time.any_text(self.dice);
         self.add(29, assigned("MAN_EPOCH_IGNITION", value, ""), Some(time));
         self.number((30, "MAN_DURATION", "[S]"));
@@ -187,7 +192,7 @@ impl<'d> Maker<'d> {
         self.group += 1;
         self.add(37, Part::Mark("META_START".to_string()), None);
         self.object();
-        let span = span(self.dice);
+        let span = if self.dice.percent(MIDNIGHTS) { midnight(self.dice, self.days) } else { span(self.dice, self.days) };
         self.epoch(38, "START_TIME", span.start);
         if let Some(time) = span.useable_start {
             self.epoch(39, "USEABLE_START_TIME", time);
@@ -224,7 +229,7 @@ pub fn opm(dice: &mut Dice) -> Vec<Line> {
     let mut maker = Maker::new(dice);
     maker.header(1, "CCSDS_OPM_VERS");
     maker.object();
-    let time = any_time(maker.dice);
+    let time = any_time(maker.dice, maker.days);
     maker.epoch(9, "EPOCH", time);
     STATE.iter().for_each(|entry| maker.number(*entry));
     if maker.dice.percent(50) {
@@ -242,7 +247,7 @@ pub fn opm(dice: &mut Dice) -> Vec<Line> {
 pub fn oem(dice: &mut Dice) -> Vec<Line> {
     let mut maker = Maker::new(dice);
     maker.header(36, "CCSDS_OEM_VERS");
-    for _ in 0..maker.dice.pick(&[1, 1, 1, 2, 3]) {
+    for _ in 0..maker.dice.pick(&[1, 1, 2, 2, 3]) {
         maker.segment();
     }
     maker.strew(true);
@@ -258,27 +263,59 @@ struct Span {
     data: Vec<Time>,
 }
 
-fn span(dice: &mut Dice) -> Span {
-    let step = dice.pick(&[1, 1000, SECOND / 2, SECOND, 60 * SECOND, DAY, 31 * DAY]);
+fn span(dice: &mut Dice, days: Days) -> Span {
+    // Whole days keep the clock, so data that begins at second 60 may stay there day after day.
+    let step = dice.pick(&[1, 1000, SECOND / 2, SECOND, 60 * SECOND, days.length(), 31 * days.length()]);
     let count = dice.pick(&[1, 1, 2, 3, 5, 8, 20]);
-    let mut data = vec![any_time(dice)];
+    let mut data = vec![any_time(dice, days)];
     for at in 1..count {
-        data.push(data[at - 1].plus(step * dice.between(1, 3) as u128));
+        data.push(data[at - 1].plus(days, step * dice.between(1, 3) as u128));
     }
-    let start = data[0].minus(step * dice.below(3) as u128);
-    let stop = data[count - 1].plus(step * dice.below(3) as u128);
-    let mut inner = [within(dice, start, stop), within(dice, start, stop)];
+    let start = data[0].minus(days, step * dice.below(3) as u128);
+    let stop = data[count - 1].plus(days, step * dice.below(3) as u128);
+    let inner = [within(dice, days, start, stop), within(dice, days, start, stop)];
+    bounded(dice, start, inner, stop, data)
+}
+
+/// A time from one to the other, often one of the two.
+fn within(dice: &mut Dice, days: Days, start: Time, stop: Time) -> Time {
+    let part = dice.pick(&[0, 1, 2, 3, 4]);
+    start.plus(days, start.until(stop, days) * part / 4)
+}
+
+/// So many in a hundred segments lie about the end of one day, where second 60 has its neighbours.
+const MIDNIGHTS: usize = 10;
+
+fn midnight(dice: &mut Dice, days: Days) -> Span {
+    let times = day_end(any_time(dice, days), days);
+    let start = dice.below(times.len());
+    let stop = dice.between(start, times.len() - 1);
+    let mut data: Vec<Time> = times[start..=stop].iter().copied().filter(|_| dice.percent(60)).collect();
+    if data.is_empty() {
+        data.push(times[dice.between(start, stop)]);
+    }
+    let inner = [times[dice.between(start, stop)], times[dice.between(start, stop)]];
+    bounded(dice, times[start], inner, times[stop], data)
+}
+
+/// A segment's times with one, both or none of the useable ones, which lie between the bounds in any order.
+fn bounded(dice: &mut Dice, start: Time, mut inner: [Time; 2], stop: Time, data: Vec<Time>) -> Span {
     inner.sort();
     let useable_start = dice.percent(50).then_some(inner[0]);
     let useable_stop = dice.percent(50).then_some(inner[1]);
     Span { start, useable_start, useable_stop, stop, data }
 }
 
-/// A time from one to the other, often one of the two.
-fn within(dice: &mut Dice, start: Time, stop: Time) -> Time {
-    let width = stop.0 - start.0;
-    let part = dice.pick(&[0, 1, 2, 3, 4]);
-    Time(start.0 + width * part / 4)
+/// Time systems other than UTC, some of them nearly UTC.
+pub const OTHER_SYSTEMS: [&str; 16] =
+    ["TAI", "TAI", "TT", "GPS", "UT1", "utc", "Utc", "UT", "UTC1", "UTC.", "UTC 1", "UTC UTC", "1 UTC", "TUTC", "=UTC", "UTC="];
+
+fn any_system(dice: &mut Dice) -> String {
+    match dice.below(100) {
+        0..=49 => "UTC".to_string(),
+        50..=84 => dice.pick(&OTHER_SYSTEMS).to_string(),
+        _ => any_text(dice),
+    }
 }
 
 fn any_blanks(dice: &mut Dice) -> [usize; 5] {
@@ -502,6 +539,67 @@ mod tests {
                 assert_eq!(judge(&written.feed, at as u64 + 1), Answer::Accepted(rows.clone()), "turn {turn}");
             }
         }
+    }
+
+    /// The system that each line stands under, as it is written.
+    fn systems(lines: &[Line]) -> Vec<&str> {
+        let mut under: Vec<&str> = Vec::new();
+        for line in lines {
+            let before = under.last().copied().unwrap_or_default();
+            under.push(match &line.part {
+                Part::Assign { word, value, .. } if word == "TIME_SYSTEM" => value,
+                _ => before,
+            });
+        }
+        under
+    }
+
+    #[test]
+    fn second_60_is_made_where_it_may_stand() {
+        let seed = 19;
+        let mut seen = std::collections::BTreeSet::new();
+        for turn in 0..2000 {
+            let lines = if turn % 2 == 0 { opm(&mut Dice::new(seed, turn)) } else { oem(&mut Dice::new(seed, turn)) };
+            for (line, system) in lines.iter().zip(systems(&lines)) {
+                if line.time.is_some_and(Time::is_at_second_60) {
+                    assert!(line.code == 2 || system == "UTC", "seed {seed}, turn {turn}");
+                    seen.insert((line.code, turn % 2));
+                }
+            }
+        }
+        let all = [(2, 0), (2, 1), (9, 0), (9, 1), (29, 0), (38, 1), (39, 1), (40, 1), (41, 1)];
+        assert_eq!(seen.into_iter().collect::<Vec<_>>(), all, "seed {seed}");
+    }
+
+    #[test]
+    fn data_stands_on_both_sides_of_second_60() {
+        let seed = 23;
+        let (mut into, mut out, mut past) = (0, 0, 0);
+        for turn in 0..2000 {
+            let lines = oem(&mut Dice::new(seed, turn));
+            let data: Vec<Time> = lines.iter().filter(|line| line.code == 9).filter_map(|line| line.time).collect();
+            for pair in data.windows(2) {
+                let step = pair[0] < pair[1] && pair[0].plus(Days::Long, SECOND) >= pair[1];
+                into += usize::from(step && !pair[0].is_at_second_60() && pair[1].is_at_second_60());
+                out += usize::from(step && pair[0].is_at_second_60() && !pair[1].is_at_second_60());
+                past += usize::from(!step && pair[0].in_day(0) < pair[1].in_day(0) && pair[0].plus(Days::Plain, SECOND) >= pair[1]);
+            }
+        }
+        assert!(into > 20 && out > 20 && past > 20, "seed {seed}: into it {into}, out of it {out}, past it {past}");
+    }
+
+    #[test]
+    fn segments_change_their_time_systems() {
+        let seed = 29;
+        let (mut to_utc, mut from_utc) = (0, 0);
+        for turn in 0..500 {
+            let lines = oem(&mut Dice::new(seed, turn));
+            for pair in systems(&lines).windows(2).filter(|pair| !pair[0].is_empty()) {
+                to_utc += usize::from(pair[0] != "UTC" && pair[1] == "UTC");
+                from_utc += usize::from(pair[0] == "UTC" && pair[1] != "UTC");
+            }
+        }
+        assert!(to_utc > 50 && from_utc > 50, "seed {seed}: to UTC {to_utc}, from UTC {from_utc}");
     }
 
     #[test]

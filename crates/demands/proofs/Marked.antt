@@ -1,7 +1,7 @@
 -- The marked cases hold by computation on the definitions.
 -- Assumes nothing.
 use Prim.Native.Nat.{ℕ}
-use mathlib.Core.Path.{_≡_, refl}
+use mathlib.Core.Path.{_≡_, refl, ap, _∙_}
 use mathlib.Core.Bool.{Bool, true, false, _||_, false≢true}
 use mathlib.Core.List.{List, [], _∷_, List·Memᴰ, List·Memᴰ·head, List·Memᴰ·tail}
 use lib.Dec.{eqb}
@@ -10,15 +10,17 @@ use Rattle.words.specs.Words.{bytes, agrees, run, isWord}
 use Rattle.lines.specs.Feed.{lastLine, linesFrom, linesBefore}
 use Rattle.lines.specs.Text.{cutEnd, trimOf, heads, headingOf, wordEnds, commentOf, sidesOf, assignmentOf, fieldThen, fieldsFrom, fieldMore, gathered}
 use Rattle.values.specs.Number.{signLen, isExponent, endsNumber, afterWhole, isNumber, digitsFrom, integerTop, isInteger}
-use Rattle.epochs.specs.Epoch.{isLeap, monthDays, daysBefore, monthDay, yearDay, isClock, isFraction, timedOf, epochOf, isBefore}
+use Rattle.epochs.specs.declared.Epoch.the-variants.{Bad}
+use Rattle.epochs.specs.Epoch.{isLeap, monthDays, daysBefore, monthDay, yearDay, lastSecond, isClock, isFraction, timedOf, epochOf, isBefore}
 use Rattle.grammar.specs.Rows.{pick}
 use Rattle.keywords.specs.Keywords.{keywords, codeIn}
 use Rattle.grammar.specs.Keywords.{keywordOf, isUnit}
 use Rattle.grammar.specs.Order.{nextOf, allows}
-use Rattle.step.specs.Step.{isTimely, areNumbers, dataAt, dataOf, fieldsOf, wholeOf, numberOf, pastTime, isEarly, timeOf, valueOf, assignOf, metaCode, metaOf, plainOf, pastComment, uncommentedOf, filledOf, stepOf}
+use Rattle.step.specs.Step.{sixtyStands, isTimely, areNumbers, dataAt, dataOf, fieldsOf, wholeOf, pastText, textOf, numberOf, pastTime, isEarly, timeOf, valueOf, assignOf, metaCode, metaOf, plainOf, pastComment, uncommentedOf, filledOf, stepOf}
 use Rattle.judge.specs.Message.{fromHeading, headings, upTo, messageOf, endOf, judgeTexts, judgeLines, judgeOf, groupOf, rowsAt, rowsFrom, rowsLines}
 use Rattle.desk.specs.Loads.{deskAfter, loadOf}
 use Rattle.rows.specs.Place.{roomFor}
+use Rattle.demands.specs.Sixty.{epochStands, sixty, InAnyState, Sixty}
 use Rattle.demands.specs.Marked.{Marked}
 use Rattle.demands.specs.Healing.{Met}
 
@@ -36,13 +38,41 @@ mem-of q (x ∷ xs) e = go (eqb q x) refl e (mem-of q xs)
     go true c r f = List·Memᴰ·head (eqb-true q x c)
     go false c r f = List·Memᴰ·tail (f r)
 
+-- ---- second 60, for any who ask and in any state
+
+sixty-one : (may : Bool) → epochStands may "2016-12-31T23:59:61" ≡ false
+unfolding bytes agrees isLeap monthDays daysBefore monthDay lastSecond isClock isFraction timedOf epochOf
+sixty-one true = refl
+sixty-one false = refl
+
+no-sixty : (v : List ℕ) (may : Bool) → v ≡ bytes sixty → may ≡ false → epochOf v may ≡ Bad
+unfolding bytes agrees isLeap monthDays daysBefore monthDay lastSecond isClock isFraction timedOf epochOf
+no-sixty v may e n = ap (λ (w : List ℕ). epochOf w may) e ∙ ap (epochOf (bytes sixty)) n
+
+any-state : InAnyState
+unfolding pastText timeOf dataOf
+any-state = (
+  (λ st v. refl),
+  (λ st c p s n u e. rw (no-sixty _ (sixtyStands st c) e (rw n u), timeOf)),
+  (λ st f s h u e. rw (h, dataOf) (rw (no-sixty _ (sixtyStands st 9) e u))),
+)
+
 -- one declaration, so that the definitions are opened once
 both : Marked × Met
-unfolding has bytes agrees run isWord lastLine linesFrom linesBefore cutEnd trimOf heads headingOf wordEnds commentOf sidesOf assignmentOf fieldThen fieldsFrom fieldMore gathered signLen isExponent endsNumber afterWhole isNumber digitsFrom integerTop isInteger isLeap monthDays daysBefore monthDay yearDay isClock isFraction timedOf epochOf isBefore pick keywords codeIn keywordOf isUnit nextOf allows isTimely areNumbers dataAt dataOf fieldsOf wholeOf numberOf pastTime isEarly timeOf valueOf assignOf metaCode metaOf plainOf pastComment uncommentedOf filledOf stepOf fromHeading headings upTo messageOf endOf judgeTexts judgeLines judgeOf groupOf rowsAt rowsFrom rowsLines roomFor deskAfter loadOf
-both = (
-  (refl, refl, refl, refl, refl, refl, refl, refl, refl, refl, refl, refl, refl, refl, refl, refl, refl, refl, refl, refl),
-  (mem-of 2 _ refl, mem-of 22 _ refl, refl, refl, refl, refl, refl, refl),
-)
+unfolding has bytes agrees run isWord lastLine linesFrom linesBefore cutEnd trimOf heads headingOf wordEnds commentOf sidesOf assignmentOf fieldThen fieldsFrom fieldMore gathered signLen isExponent endsNumber afterWhole isNumber digitsFrom integerTop isInteger isLeap monthDays daysBefore monthDay yearDay lastSecond isClock isFraction timedOf epochOf isBefore pick keywords codeIn keywordOf isUnit nextOf allows isTimely areNumbers dataAt dataOf fieldsOf wholeOf pastText textOf numberOf pastTime isEarly timeOf valueOf assignOf metaCode metaOf plainOf pastComment uncommentedOf filledOf stepOf fromHeading headings upTo messageOf endOf judgeTexts judgeLines judgeOf groupOf rowsAt rowsFrom rowsLines roomFor deskAfter loadOf
+both =
+    let sixties : Sixty = (
+      (refl, refl, refl, refl, refl, (λ b. refl), (λ b. refl), sixty-one),
+      (refl, refl, refl, refl, refl),
+      any-state,
+      (refl, refl, refl, refl),
+      (refl, refl, refl, refl, refl, refl, refl, refl, refl, refl, refl),
+      (refl, refl, refl, refl, refl, refl),
+      (refl, refl, refl),
+    ) in (
+      ((λ b. refl), (λ b. refl), (λ b. refl), (λ b. refl), (λ b. refl), sixties, refl, refl, refl, refl, refl, refl, refl, refl, refl, refl, refl, refl, refl, refl),
+      (mem-of 2 _ refl, mem-of 22 _ refl, refl, refl, refl, refl, refl, refl),
+    )
 
 pub marked : Marked
 marked = both .0

@@ -1,3 +1,4 @@
+pub mod Sixty
 pub mod Marked
 pub mod Loads
 pub mod Healing

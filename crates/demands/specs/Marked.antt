@@ -1,4 +1,4 @@
--- The cases that document 01 marks, settled on the definitions themselves, as one listed statement.
+-- The cases that document 01 marks, settled on the definitions themselves, as one listed statement; of second 60 what document 02, (ii), says.
 -- Assumes nothing.
 use Prim.Native.Nat.{ℕ}
 use Prim.Native.String.{String}
@@ -9,22 +9,13 @@ use lib.ListN.{length, replicate}
 use Rattle.words.specs.Words.{bytes}
 use Rattle.lines.specs.Text.{isLong}
 use Rattle.values.specs.Number.{isNumber, isInteger}
-use Rattle.epochs.specs.Epoch.{epochOf}
 use Rattle.judge.specs.Message.{judgeOf, rowsOf}
 use Rattle.judge.specs.declared.Judged.the-variants.{Accepted, Refused}
 use Rattle.judge.specs.declared.Row.{Row}
 use Rattle.desk.specs.Loads.{loadOf}
 use Rattle.desk.specs.declared.Desk.{Desk}
 use Rattle.step.specs.declared.Reason.the-variants as Reasons
-use Rattle.epochs.specs.declared.Epoch.{Epoch}
-use Rattle.epochs.specs.declared.Epoch.the-variants.{At, Bad}
-
-abbrev pub stands : Epoch → Bool
-stands (At t) = true
-stands Bad = false
-
-abbrev pub epochStands : String → Bool
-epochStands s = stands (epochOf (bytes s))
+use Rattle.demands.specs.Sixty.{epochStands, Sixty}
 
 abbrev pub numberStands : String → Bool
 numberStands s = isNumber (bytes s)
@@ -78,16 +69,16 @@ nineteenRows =
     ∷ row 15 1 13 242 1
     ∷ []
 
--- "days 2000-02-29 and 2000-366 stand; 1900-02-29, 2001-366, hour 24 and second 60 are VALUE. `0.5` stands; `.5` and `5.` don't. 2147483647
+-- "days 2000-02-29 and 2000-366 stand; 1900-02-29, 2001-366, hour 24 [..] are VALUE. `0.5` stands; `.5` and `5.` don't. 2147483647
 -- stands as a degree, 2147483648 doesn't. 254 bytes stand, 255 are LONG." "Without line 13: SHORT at 13. Line 12 given twice: ORDER at 13." "Table of 94 entries: NO_ROOM."
 abbrev pub Marked : Type 0
 Marked =
-    (epochStands "2000-02-29T00:00:00" ≡ true)
-    × (epochStands "2000-366T00:00:00" ≡ true)
-    × (epochStands "1900-02-29T00:00:00" ≡ false)
-    × (epochStands "2001-366T00:00:00" ≡ false)
-    × (epochStands "2000-01-01T24:00:00" ≡ false)
-    × (epochStands "2000-01-01T23:59:60" ≡ false)
+    ((may : Bool) → epochStands may "2000-02-29T00:00:00" ≡ true)
+    × ((may : Bool) → epochStands may "2000-366T00:00:00" ≡ true)
+    × ((may : Bool) → epochStands may "1900-02-29T00:00:00" ≡ false)
+    × ((may : Bool) → epochStands may "2001-366T00:00:00" ≡ false)
+    × ((may : Bool) → epochStands may "2000-01-01T24:00:00" ≡ false)
+    × Sixty
     × (numberStands "0.5" ≡ true)
     × (numberStands ".5" ≡ false)
     × (numberStands "5." ≡ false)

@@ -1,4 +1,4 @@
--- Epochs and their instants, by document 01, "Values". A value is the list of its bytes.
+-- Epochs and their instants, by document 01, "Values", and document 02, (ii). A value is the list of its bytes; sixty says whether second 60 may stand.
 -- Assumes nothing.
 use Prim.Native.Nat.{ℕ, zero, suc, _+_, _-_, _*_, _%_}
 use mathlib.Core.List.{List, [], _∷_}
@@ -52,9 +52,16 @@ yearDay leap d = elim (leb d (elim leap [ true ↦ 366 | false ↦ 365 ])) [ tru
 abbrev pub yearAt : List ℕ → ℕ
 yearAt s = twoAt s 0 * 100 + twoAt s 2
 
--- "hh:mm:ss" from a place on: "hours 00-23, minutes and seconds 00-59"
-unfoldable pub isClock : List ℕ → ℕ → Bool
-isClock s at = leb (twoAt s at) 23 && (leb (twoAt s (at + 3)) 59 && leb (twoAt s (at + 6)) 59)
+-- a minute's last second: "Second 60 is now right at 23:59, on any date", where "Whoever has an epoch read" says that it may stand
+unfoldable pub lastSecond : ℕ → ℕ → Bool → ℕ
+lastSecond hour minute sixty = elim (eqb hour 23 && (eqb minute 59 && sixty)) [ true ↦ 60 | false ↦ 59 ]
+
+-- "hh:mm:ss" from a place on: "hours 00-23, minutes and seconds 00-59", and second 60 where it may stand
+unfoldable pub isClock : List ℕ → ℕ → Bool → Bool
+isClock s at sixty =
+    let hour = twoAt s at in
+    let minute = twoAt s (at + 3) in
+    leb hour 23 && (leb minute 59 && leb (twoAt s (at + 6)) (lastSecond hour minute sixty))
 
 abbrev pub secondAt : List ℕ → ℕ → ℕ
 secondAt s at = (twoAt s at * 60 + twoAt s (at + 3)) * 60 + twoAt s (at + 6)
@@ -70,26 +77,26 @@ nanoAt s at =
     twoAt s at * 10000000 + twoAt s (at + 2) * 100000 + twoAt s (at + 4) * 1000 + twoAt s (at + 6) * 10 + digitAt s (at + 8)
 
 -- the instant of a day of the year, with the clock from a place on: "Years 0001 to 9999"
-unfoldable pub timedOf : List ℕ → ℕ → ℕ → Epoch
-timedOf s day at =
-    elim (leb 1 (yearAt s) && (leb 1 day && (isClock s at && isFraction (drop (at + 8) s)))) [
+unfoldable pub timedOf : List ℕ → ℕ → ℕ → Bool → Epoch
+timedOf s day at sixty =
+    elim (leb 1 (yearAt s) && (leb 1 day && (isClock s at sixty && isFraction (drop (at + 8) s)))) [
       | true ↦ At (record { day = yearAt s * 1000 + day; second = secondAt s at; nano = nanoAt s (at + 9) })
       | false ↦ Bad
     ]
 
 -- "Epoch (2, 9, 29, 38-41): `YYYY-MM-DDThh:mm:ss` or `YYYY-DDDThh:mm:ss`, then nothing or a period and 1 to 9 digits"
-unfoldable pub epochOf : List ℕ → Epoch
-epochOf s =
+unfoldable pub epochOf : List ℕ → Bool → Epoch
+epochOf s sixty =
     elim (shaped (bytes "0000-00-00T00:00:00") s) [
-      | true ↦ timedOf s (monthDay (isLeap (yearAt s)) (twoAt s 5) (twoAt s 8)) 11
+      | true ↦ timedOf s (monthDay (isLeap (yearAt s)) (twoAt s 5) (twoAt s 8)) 11 sixty
       | false ↦
           elim (shaped (bytes "0000-000T00:00:00") s) [
-            | true ↦ timedOf s (yearDay (isLeap (yearAt s)) (twoAt s 5 * 10 + digitAt s 7)) 9
+            | true ↦ timedOf s (yearDay (isLeap (yearAt s)) (twoAt s 5 * 10 + digitAt s 7)) 9 sixty
             | false ↦ Bad
           ]
     ]
 
--- "Both epoch forms compare by the instant": by day, then second of the day, then fraction
+-- "Both epoch forms compare by the instant"; "Epochs compare by day, then second of day up to 86,400, then fraction."
 unfoldable pub isBefore : Instant → Instant → Bool
 isBefore a b =
     ltb (a .day) (b .day)

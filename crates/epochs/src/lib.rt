@@ -4,9 +4,9 @@ use values::only_digits;
 ghost use mathlib.Core.Path.{_≡_};
 ghost use Prim.Native.Nat.{_+_, _<_, _≤_};
 ghost use lib.ListN.{drop};
-ghost use Rattle.epochs.specs.Epoch.{shaped, fits, digitAt, twoAt, yearAt, isLeap, monthDays, daysBefore, monthDay, yearDay, isClock, secondAt, isFraction, nanoAt, timedOf, epochOf, isBefore};
+ghost use Rattle.epochs.specs.Epoch.{shaped, fits, digitAt, twoAt, yearAt, isLeap, monthDays, daysBefore, monthDay, yearDay, lastSecond, isClock, secondAt, isFraction, nanoAt, timedOf, epochOf, isBefore};
 
-// A moment: the year times a thousand and the day of the year, the second of the day, the nanosecond of the second.
+// A moment: the year times a thousand and the day of the year, the second of the day (86,400 is 23:59:60), the nanosecond of the second.
 pub struct Instant {
     pub day: u64,
     pub second: u64,
@@ -142,18 +142,36 @@ fn year_day(leap: bool, day: u64) -> u64
     day
 }
 
-// Hours, minutes and seconds from a place on are those of a day.
-fn is_clock(text: &[u8], at: usize) -> bool
-    requires { ⌜ at < 50 ⌝ }
-    ensures { λ r. ⌜ r ≡ isClock (now (text .entry)) at ⌝ }
+// The last second of a minute: 60 at 23:59, where it may stand.
+fn last_second(hour: u64, minute: u64, sixty: bool) -> u64
+    ensures { λ r. ⌜ r ≡ lastSecond hour minute sixty ⌝ }
 {
-    if 23 < two_at(text, at) {
+    if hour != 23 {
+        return 59;
+    }
+    if minute != 59 {
+        return 59;
+    }
+    if sixty {
+        return 60;
+    }
+    59
+}
+
+// Hours, minutes and seconds from a place on are those of a day.
+fn is_clock(text: &[u8], at: usize, sixty: bool) -> bool
+    requires { ⌜ at < 50 ⌝ }
+    ensures { λ r. ⌜ r ≡ isClock (now (text .entry)) at sixty ⌝ }
+{
+    let hour = two_at(text, at);
+    if 23 < hour {
         return false;
     }
-    if 59 < two_at(text, at + 3) {
+    let minute = two_at(text, at + 3);
+    if 59 < minute {
         return false;
     }
-    two_at(text, at + 6) <= 59
+    two_at(text, at + 6) <= last_second(hour, minute, sixty)
 }
 
 fn second_at(text: &[u8], at: usize) -> u64
@@ -195,9 +213,9 @@ fn year_at(text: &[u8]) -> u64
 }
 
 // The instant of a day of the year, with the clock from a place on.
-fn timed(text: &[u8], day: u64, at: usize) -> Epoch
+fn timed(text: &[u8], day: u64, at: usize, sixty: bool) -> Epoch
     requires { ⌜ (day ≤ 366) × (at < 40) ⌝ }
-    ensures { λ r. ⌜ r ≡ timedOf (now (text .entry)) day at ⌝ }
+    ensures { λ r. ⌜ r ≡ timedOf (now (text .entry)) day at sixty ⌝ }
 {
     let year = year_at(text);
     if year < 1 {
@@ -206,34 +224,36 @@ fn timed(text: &[u8], day: u64, at: usize) -> Epoch
     if day < 1 {
         return Epoch::Bad;
     }
-    if !is_clock(text, at) {
+    if !is_clock(text, at, sixty) {
         return Epoch::Bad;
     }
     if !is_fraction(text, at + 8) {
         return Epoch::Bad;
     }
+    let date = year * 1000 + day;
     let second = second_at(text, at);
     let nano = nano_at(text, at + 9);
     Epoch::At(Instant {
-        day: year * 1000 + day,
+        day: date,
         second,
         nano,
     })
 }
 
-pub fn epoch_of(text: &[u8]) -> Epoch
-    ensures { λ r. ⌜ r ≡ epochOf (now (text .entry)) ⌝ }
+// Whoever has an epoch read says whether second 60 may stand.
+pub fn epoch_of(text: &[u8], sixty: bool) -> Epoch
+    ensures { λ r. ⌜ r ≡ epochOf (now (text .entry)) sixty ⌝ }
 {
     if has_shape(text, b"0000-00-00T00:00:00") {
         let day = month_day(is_leap(year_at(text)), two_at(text, 5), two_at(text, 8));
-        return timed(text, day, 11);
+        return timed(text, day, 11, sixty);
     }
     if has_shape(text, b"0000-000T00:00:00") {
         let day = year_day(
             is_leap(year_at(text)),
             two_at(text, 5) * 10 + digit_at(text, 7),
         );
-        return timed(text, day, 9);
+        return timed(text, day, 9, sixty);
     }
     Epoch::Bad
 }

@@ -72,8 +72,8 @@ fn say_fields(text: &[u8]) {
     }
 }
 
-fn say_epoch(text: &[u8]) {
-    match epochs::epoch_of(text) {
+fn say_epoch(text: &[u8], sixty: bool) {
+    match epochs::epoch_of(text, sixty) {
         Epoch::At(t) => {
             say_number(t.day);
             say_number(t.second);
@@ -147,7 +147,8 @@ fn say_answer(leaf: u8, text: &[u8]) {
     match leaf {
         b'n' => say_bool(values::is_number(text)),
         b'i' => say_bool(values::is_integer(text)),
-        b'e' => say_epoch(text),
+        b'e' => say_epoch(text, false),
+        b'E' => say_epoch(text, true),
         b'v' => say_bool(values::is_version(text)),
         b't' => say_span(lines::trim(text)),
         b'o' => say_number(lines::odd_at(text) as u64),

@@ -1,6 +1,6 @@
 -- Laws of the definitions on a line judged.
 -- Assumes nothing.
-use mathlib.Core.Path.{_≡_, refl, ap, _∙_}
+use mathlib.Core.Path.{_≡_, refl, ap, sym, _∙_}
 use mathlib.Core.List.{List, [], _∷_}
 use mathlib.Core.Bool.{Bool, true, false, not}
 use Prim.Native.Nat.{ℕ, zero, suc, _+_, _-_, _≤_, _<_}
@@ -19,6 +19,8 @@ use Rattle.lines.specs.declared.Sides.{Sides}
 use Rattle.lines.specs.declared.Fields.{Fields}
 use borrow.Author.Tests.{ltb-true}
 use Rattle.lines.proofs.Laws.{trim-within}
+use Rattle.epochs.specs.Epoch.{epochOf}
+use Rattle.epochs.specs.declared.Epoch.{Epoch}
 use Rattle.grammar.specs.Keywords.{isUnit}
 use Rattle.grammar.specs.declared.Form.{Form}
 use Rattle.grammar.specs.declared.Form.the-variants.{Opm, Oem}
@@ -63,6 +65,11 @@ fields-in st s f e =
       | Oem ↦ elim (eqb (splitOf s .count) 7) [ false ↦ wrong st Reasons.Form | true ↦ dataOf st (splitOf s) s ]
     ])
     e
+
+-- ---- an epoch read by one who found out whether second 60 may stand
+
+pub epoch-read : (v : List ℕ) (asked may : Bool) (e : Epoch) → e ≡ epochOf v asked → asked ≡ may → epochOf v may ≡ e
+epoch-read v asked may e h k = sym (h ∙ ap (epochOf v) k)
 
 -- ---- parts of a text
 

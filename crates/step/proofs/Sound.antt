@@ -32,7 +32,7 @@ use Rattle.grammar.specs.declared.Keyword.the-variants.{Code, Unknown}
 use Rattle.grammar.specs.declared.Kind.{Kind}
 use Rattle.grammar.specs.declared.Kind.the-variants.{Version, Text, Integer, Number, Epoch, Nothing}
 use Rattle.values.specs.Number.{isNumber, isText, isVersion, isInteger}
-use Rattle.step.specs.Step.{wrong, noRow, oneRow, sevenRows, fitsHere, part, Inside, SevenInside, areNumbers, isTimely, dataAt, dataOf, fieldsOf, wholeOf, wordLen, numberOf, pastTime, isEarly, timeOf, valueOf, assignOf, metaCode, metaOf, plainOf, pastComment, uncommentedOf, filledOf, stepOf}
+use Rattle.step.specs.Step.{wrong, noRow, oneRow, sevenRows, fitsHere, sixtyStands, part, Inside, SevenInside, areNumbers, isTimely, dataAt, dataOf, fieldsOf, wholeOf, textOf, wordLen, numberOf, pastTime, isEarly, timeOf, valueOf, assignOf, metaCode, metaOf, plainOf, pastComment, uncommentedOf, filledOf, stepOf}
 use Rattle.step.specs.declared.State.{State}
 use Rattle.step.specs.declared.Step.{Step}
 use Rattle.step.specs.declared.Reason.{Reason}
@@ -119,7 +119,7 @@ module _ (s : List ℕ) where
 
     data-good : (f : Fields) → SevenInside (f .spans) s → Good s (dataOf st f s)
     unfolding dataOf
-    data-good f h = either (fitsHere st 9) (go (epochOf (part (getD (f .spans) 0 noSpan) s))) (offence st _)
+    data-good f h = either (fitsHere st 9) (go (epochOf (part (getD (f .spans) 0 noSpan) s) (sixtyStands st 9))) (offence st _)
       where
         go : (e : EpochRead) → Good s (elim e [ Bad ↦ wrong st Reasons.Value | At t ↦ dataAt st f t s ])
         go Bad = offence st _
@@ -142,9 +142,13 @@ module _ (s : List ℕ) where
       unfolding wholeOf
       whole-good t = either t (one _ c p k h) (offence st _)
 
+      text-good : Good s (textOf st c p s)
+      unfolding textOf
+      text-good = either (isText (part p s)) (one _ c p k h) (offence st _)
+
       time-good : Good s (timeOf st c p s)
       unfolding timeOf
-      time-good = go (epochOf (part p s))
+      time-good = go (epochOf (part p s) (sixtyStands st c))
         where
           go : (e : EpochRead) → Good s (elim e [ Bad ↦ wrong st Reasons.Value | At t ↦ elim (isEarly st c t) [ true ↦ wrong st Reasons.TimeOrder | false ↦ oneRow (pastTime st c t) c p ] ])
           go Bad = offence st _
@@ -169,14 +173,14 @@ module _ (s : List ℕ) where
           go : (q : Kind)
               → Good s (elim q [
                 | Version ↦ wholeOf st c p (isVersion (part p s))
-                | Text ↦ wholeOf st c p (isText (part p s))
+                | Text ↦ textOf st c p s
                 | Integer ↦ wholeOf st c p (isInteger (part p s))
                 | Number ↦ numberOf st c p s
                 | Epoch ↦ timeOf st c p s
                 | Nothing ↦ wrong st Reasons.Value
               ])
           go Version = whole-good _
-          go Text = whole-good _
+          go Text = text-good
           go Integer = whole-good _
           go Number = number-good
           go Epoch = time-good

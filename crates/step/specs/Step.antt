@@ -1,4 +1,4 @@
--- One line judged from its text and the state alone, by document 01, "What a line can be" and "Values". Places are within the text.
+-- One line judged from its text and the state alone, by document 01, "What a line can be" and "Values", and document 02, (ii). Places are within the text.
 -- Assumes nothing.
 use Prim.Native.Nat.{ℕ, _+_, _-_, _≤_}
 use mathlib.Core.Path.{_≡_}
@@ -65,15 +65,19 @@ abbrev pub noInstant : Instant
 noInstant = record { day = 0; second = 0; nano = 0 }
 
 abbrev pub freshState : Form → State
-freshState f = record { form = f; last = 0; start = noInstant; latest = noInstant; seen = noInstant }
+freshState f = record { form = f; last = 0; utc = false; start = noInstant; latest = noInstant; seen = noInstant }
 
 -- a line of this code has stood
 abbrev pub past : State → ℕ → State
-past st c = record { form = st .form; last = c; start = st .start; latest = st .latest; seen = st .seen }
+past st c = record { form = st .form; last = c; utc = st .utc; start = st .start; latest = st .latest; seen = st .seen }
 
 -- may a line of this code stand here? "ORDER: not allowed next, whether repeated, too early or too late."
 abbrev pub fitsHere : State → ℕ → Bool
 fitsHere st c = allows (nextOf (st .form) (st .last)) c
+
+-- may second 60 stand in an epoch of this code? "for CREATION_DATE always and for the other epochs where the message or segment has TIME_SYSTEM exactly `UTC`"
+abbrev pub sixtyStands : State → ℕ → Bool
+sixtyStands st c = eqb c 2 || st .utc
 
 -- a part of a text
 abbrev pub part : Span → List ℕ → List ℕ
@@ -102,7 +106,7 @@ areNumbers (p ∷ ps) s = isNumber (part p s) && areNumbers ps s
 
 -- a data line of this epoch has stood
 abbrev pub pastData : State → Instant → State
-pastData st t = record { form = st .form; last = 9; start = st .start; latest = st .latest; seen = t }
+pastData st t = record { form = st .form; last = 9; utc = st .utc; start = st .start; latest = st .latest; seen = t }
 
 -- "A data line: ORDER, then VALUE field by field from the left, then TIME_ORDER."
 unfoldable pub dataAt : State → Fields → Instant → List ℕ → Step
@@ -116,7 +120,7 @@ unfoldable pub dataOf : State → Fields → List ℕ → Step
 dataOf st f s =
     elim (fitsHere st 9) [
       | false ↦ wrong st Reasons.Order
-      | true ↦ elim (epochOf (part (getD (f .spans) 0 noSpan) s)) [ Bad ↦ wrong st Reasons.Value | At t ↦ dataAt st f t s ]
+      | true ↦ elim (epochOf (part (getD (f .spans) 0 noSpan) s) (sixtyStands st 9)) [ Bad ↦ wrong st Reasons.Value | At t ↦ dataAt st f t s ]
     ]
 
 -- "OEM only, trimmed, exactly seven fields parted by runs of blanks: a data line." "Anything else: FORM."
@@ -133,6 +137,17 @@ fieldsOf st s =
 -- "Texts, integers [..] are the whole trimmed field." The heading's value too.
 unfoldable pub wholeOf : State → ℕ → Span → Bool → Step
 wholeOf st c p right = elim right [ false ↦ wrong st Reasons.Value | true ↦ oneRow (past st c) c p ]
+
+-- a text of this code and value has stood; TIME_SYSTEM is kept for the epochs after it: is it "exactly `UTC`"?
+unfoldable pub pastText : State → ℕ → List ℕ → State
+pastText st c v =
+    elim (eqb c 8) [
+      | true ↦ record { form = st .form; last = c; utc = isWord (bytes "UTC") v; start = st .start; latest = st .latest; seen = st .seen }
+      | false ↦ past st c
+    ]
+
+unfoldable pub textOf : State → ℕ → Span → List ℕ → Step
+textOf st c p s = elim (isText (part p s)) [ false ↦ wrong st Reasons.Value | true ↦ oneRow (pastText st c (part p s)) c p ]
 
 -- how many bytes stand before the first blank
 abbrev pub wordLen : List ℕ → ℕ
@@ -157,10 +172,10 @@ numberOf st c p s =
 unfoldable pub pastTime : State → ℕ → Instant → State
 pastTime st c t =
     elim (eqb c 38) [
-      | true ↦ record { form = st .form; last = c; start = t; latest = t; seen = st .seen }
+      | true ↦ record { form = st .form; last = c; utc = st .utc; start = t; latest = t; seen = st .seen }
       | false ↦
           elim (between 39 41 c) [
-            | true ↦ record { form = st .form; last = c; start = st .start; latest = t; seen = st .seen }
+            | true ↦ record { form = st .form; last = c; utc = st .utc; start = st .start; latest = t; seen = st .seen }
             | false ↦ past st c
           ]
     ]
@@ -171,7 +186,7 @@ isEarly st c t = between 39 41 c && isBefore t (st .latest)
 
 unfoldable pub timeOf : State → ℕ → Span → List ℕ → Step
 timeOf st c p s =
-    elim (epochOf (part p s)) [
+    elim (epochOf (part p s) (sixtyStands st c)) [
       | Bad ↦ wrong st Reasons.Value
       | At t ↦ elim (isEarly st c t) [ true ↦ wrong st Reasons.TimeOrder | false ↦ oneRow (pastTime st c t) c p ]
     ]
@@ -180,7 +195,7 @@ unfoldable pub valueOf : State → ℕ → Span → List ℕ → Step
 valueOf st c p s =
     elim (kindOf c) [
       | Version ↦ wholeOf st c p (isVersion (part p s))
-      | Text ↦ wholeOf st c p (isText (part p s))
+      | Text ↦ textOf st c p s
       | Integer ↦ wholeOf st c p (isInteger (part p s))
       | Number ↦ numberOf st c p s
       | Epoch ↦ timeOf st c p s

@@ -16,7 +16,7 @@ use words::is_word;
 ghost use mathlib.Core.Path.{_≡_};
 ghost use lib.ListN.{drop};
 ghost use Rattle.step.specs.Reasons.{reasonNo};
-ghost use Rattle.step.specs.Step.{wrong, noRow, oneRow, freshState, past, fitsHere, Inside, SevenInside, isTimely, areNumbers, pastData, dataAt, dataOf, fieldsOf, wholeOf, numberOf, pastTime, isEarly, timeOf, valueOf, assignOf, metaCode, metaOf, plainOf, pastComment, uncommentedOf, filledOf, stepOf};
+ghost use Rattle.step.specs.Step.{wrong, noRow, oneRow, freshState, past, fitsHere, sixtyStands, Inside, SevenInside, isTimely, areNumbers, pastData, dataAt, dataOf, fieldsOf, wholeOf, pastText, textOf, numberOf, pastTime, isEarly, timeOf, valueOf, assignOf, metaCode, metaOf, plainOf, pastComment, uncommentedOf, filledOf, stepOf};
 
 // Why a load or a ticket is refused, in the order of document 01's numbers.
 pub enum Reason {
@@ -44,10 +44,11 @@ pub enum Verdict {
 }
 
 // What judging a line needs of the lines before it: the code of the last one that is no comment and not blank (0: none; 45: a comment
-// since the data lines), START_TIME, the latest time given, and the last data line's epoch.
+// since the data lines), whether the present TIME_SYSTEM is exactly UTC, START_TIME, the latest time given, and the last data line's epoch.
 pub struct State {
     pub form: Form,
     pub last: u16,
+    pub utc: bool,
     pub start: Instant,
     pub latest: Instant,
     pub seen: Instant,
@@ -135,6 +136,7 @@ impl State {
         State {
             form,
             last: 0,
+            utc: false,
             start: none,
             latest: none,
             seen: none,
@@ -197,6 +199,16 @@ impl State {
     {
         let form = self.form;
         grammar::allows_code(grammar::next_of(form, self.last), code)
+    }
+
+    // Second 60 may stand in an epoch of this code.
+    fn sixty_stands(self, code: u16) -> bool
+        ensures { λ r. ⌜ r ≡ sixtyStands self code ⌝ }
+    {
+        if code == 2 {
+            return true;
+        }
+        self.utc
     }
 
     // The line's place in time is right: within the segment's span, and after the data line before it.
@@ -263,7 +275,7 @@ impl State {
         let p = spans[0];
         let from = p.from;
         let to = p.to;
-        match epoch_of(&text[from..to]) {
+        match epoch_of(&text[from..to], self.sixty_stands(9)) {
             Epoch::Bad => self.wrong(Reason::Value),
             Epoch::At(t) => self.data_at(f, t, text),
         }
@@ -294,6 +306,37 @@ impl State {
             return self.wrong(Reason::Value);
         }
         self.past(code).one_row(code, p)
+    }
+
+    // A text of this code has stood; of TIME_SYSTEM's the epochs after it need to know whether it is UTC.
+    fn past_text(self, code: u16, value: &[u8]) -> State
+        ensures { λ r. ⌜ r ≡ pastText self code (now (value .entry)) ⌝ }
+    {
+        let mut next = self;
+        next.last = code;
+        if code != 8 {
+            return next;
+        }
+        if is_word(value, b"UTC") {
+            next.utc = true;
+            return next;
+        }
+        next.utc = false;
+        next
+    }
+
+    // A text.
+    fn text(self, code: u16, p: Span, text: &[u8]) -> Step
+        requires { ⌜ Inside p (now text) ⌝ }
+        ensures { λ r. ⌜ r ≡ textOf self code p (now (text .entry)) ⌝ }
+    {
+        let from = p.from;
+        let to = p.to;
+        let whole = &text[from..to];
+        if !values::is_text(whole) {
+            return self.wrong(Reason::Value);
+        }
+        self.past_text(code, whole).one_row(code, p)
     }
 
     // A number, which ends at the first blank, and its unit.
@@ -360,7 +403,7 @@ impl State {
     {
         let from = p.from;
         let to = p.to;
-        match epoch_of(&text[from..to]) {
+        match epoch_of(&text[from..to], self.sixty_stands(code)) {
             Epoch::Bad => self.wrong(Reason::Value),
             Epoch::At(t) => {
                 if self.is_early(code, t) {
@@ -380,7 +423,7 @@ impl State {
         let to = p.to;
         match grammar::kind_of(code) {
             Kind::Version => self.whole(code, p, values::is_version(&text[from..to])),
-            Kind::Text => self.whole(code, p, values::is_text(&text[from..to])),
+            Kind::Text => self.text(code, p, text),
             Kind::Integer => self.whole(code, p, values::is_integer(&text[from..to])),
             Kind::Number => self.number(code, p, text),
             Kind::Epoch => self.time(code, p, text),

@@ -4,6 +4,7 @@ mod desks;
 mod feeds;
 mod lines;
 mod orders;
+mod sixty;
 mod values;
 
 use crate::judge::{Reason, Row};
@@ -60,6 +61,14 @@ pub fn all() -> Vec<Case> {
     values::units(&mut book);
     values::bounds(&mut book);
     values::data_times(&mut book);
+    sixty::systems(&mut book);
+    sixty::clocks(&mut book);
+    sixty::days(&mut book);
+    sixty::own_systems(&mut book);
+    sixty::elsewhere(&mut book);
+    sixty::reasons(&mut book);
+    sixty::neighbours(&mut book);
+    sixty::rows(&mut book);
     book.cases
 }
 

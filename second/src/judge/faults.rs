@@ -6,7 +6,7 @@ use super::cut::Cut;
 use super::facts::{Fact, What};
 use super::order::{fit, Fit};
 use super::shape::{is_epoch, is_integer, is_number, is_text, is_version, moment, Moment};
-use super::words::{coded, Wanted, Word, DATA_FIELDS, DATA_LINE, META_START, START_TIME, STOP_TIME};
+use super::words::{coded, Wanted, Word, CREATION_DATE, DATA_FIELDS, DATA_LINE, META_START, START_TIME, STOP_TIME, TIME_SYSTEM};
 use super::{Kind, Reason};
 
 /// A line of the message and why it offends.
@@ -19,7 +19,10 @@ pub fn least(kind: Kind, facts: &[Fact], lines: usize) -> Option<Fault> {
     let order = order_fault(kind, facts, lines);
     let segments = facts.split(|fact| matches!(fact.what, What::Mark(META_START, _)));
     let times = segments.flat_map(time_faults);
-    each_line.chain(parted).chain(order).chain(times).min()
+    // Each stretch but the first begins with the naming of a system, and hears of no other.
+    let stretches = facts.chunk_by(|_, next| system_named(next).is_none());
+    let sixties = stretches.flat_map(sixty_faults);
+    each_line.chain(parted).chain(order).chain(times).chain(sixties).min()
 }
 
 /// What a line shows by itself: wrong in form or keyword, value, or unit.
@@ -55,6 +58,33 @@ fn unit_stands(word: &Word, rest: &Cut) -> bool {
 
 fn fields_stand(fields: &[Cut; 7]) -> bool {
     DATA_FIELDS.iter().zip(fields).all(|(code, field)| value_stands(coded(*code), field))
+}
+
+/// VALUE for every second 60 in a stretch of facts that does not begin by naming UTC.
+/// A stretch may reach into the next segment, but an epoch that stands there before its own system is out of order.
+fn sixty_faults(stretch: &[Fact]) -> Vec<Fault> {
+    if stretch.first().and_then(system_named) == Some(b"UTC") {
+        return Vec::new();
+    }
+    let sixties = stretch.iter().filter(|fact| told_in_system(fact).is_some_and(|moment| moment.is_at_second_60()));
+    sixties.map(|fact| (fact.line, Reason::Value)).collect()
+}
+
+/// The time system that a fact names, if it names one.
+fn system_named<'f>(fact: &Fact<'f>) -> Option<&'f [u8]> {
+    match &fact.what {
+        What::Assigned { word, value, .. } if word.code == TIME_SYSTEM => Some(value.text),
+        _ => None,
+    }
+}
+
+/// The epoch of a fact, if it is one that the time system speaks of; a creation date isn't.
+fn told_in_system(fact: &Fact) -> Option<Moment> {
+    match &fact.what {
+        What::Assigned { word, value, .. } if word.wanted == Wanted::Epoch && word.code != CREATION_DATE => moment(value.text),
+        What::Data(fields) => moment(fields[0].text),
+        _ => None,
+    }
 }
 
 /// ORDER for a data line when only comments, and one at least, part it from an earlier data line.
@@ -162,6 +192,23 @@ mod tests {
     fn what_comes_later_spoils_no_earlier_line() {
         assert_eq!(oem(&format!("{HEAD}{FIRST}STOP_TIME=1990-001T00:00:00\n")), Some((14, Reason::Order)));
         assert_eq!(oem(&format!("{HEAD}{FIRST}START_TIME=2010-001T00:00:00\n")), Some((14, Reason::Order)));
+    }
+
+    #[test]
+    fn second_60_stands_by_the_system_of_its_stretch() {
+        let leap = |system: &str| {
+            let head =
+                HEAD.replace("TIME_SYSTEM=a", &format!("TIME_SYSTEM={system}")).replace("2000-001T00:00:00\nORI", "2000-001T23:59:60\nORI");
+            format!("{head}{FIRST}2000-001T23:59:60 1 2 3 4 5 6\n{NEXT}")
+        };
+        let segment = |system: &str| format!("META_START{}", leap(system).split_once("META_START").expect("a segment").1);
+        assert_eq!(oem(&leap("  UTC ")), None);
+        assert_eq!(oem(&leap("TAI")), Some((14, Reason::Value)));
+        assert_eq!(oem(&leap("utc")), Some((14, Reason::Value)));
+        assert_eq!(oem(&leap("UTC 1")), Some((14, Reason::Value)));
+        assert_eq!(oem(&format!("{}{}", leap("UTC"), segment("UTC"))), None);
+        assert_eq!(oem(&format!("{}{}", leap("UTC"), segment("TAI"))), Some((26, Reason::Value)));
+        assert_eq!(oem(&format!("{}{}", leap("TAI"), segment("UTC"))), Some((14, Reason::Value)));
     }
 
     #[test]

@@ -63,10 +63,17 @@ fn is_exponent(body: &[u8]) -> bool {
 }
 
 /// An instant as `YYYY-MM-DDThh:mm:ss.fffffffff`; all have one length, so they compare as text.
+/// Second 60 is written as it stands, so it lies after second 59 and before the next day without any sum.
 #[derive(Clone, Copy, Debug, PartialEq, Eq, PartialOrd, Ord)]
 pub struct Moment([u8; 29]);
 
-/// Reads an epoch of either form; `None` if it isn't one.
+impl Moment {
+    pub fn is_at_second_60(&self) -> bool {
+        &self.0[17..19] == b"60"
+    }
+}
+
+/// Reads an epoch of either form; `None` if it isn't one. Whether second 60 may stand where it stands is asked elsewhere.
 pub fn moment(value: &[u8]) -> Option<Moment> {
     let at = value.iter().position(|&b| b == b'T')?;
     let (date, time) = (&value[..at], &value[at + 1..]);
@@ -137,9 +144,10 @@ pub fn is_leap(year: u32) -> bool {
     year % 400 == 0 || (year % 4 == 0 && year % 100 != 0)
 }
 
-/// `hh:mm:ss` with hours to 23, minutes and seconds to 59; text compares as the numbers do.
+/// `hh:mm:ss` with hours to 23, minutes and seconds to 59, or the one clock with a second 60; text compares as the numbers do.
 fn is_clock(clock: &[u8]) -> bool {
-    fits(b"dd:dd:dd", clock) && &clock[..2] <= b"23" && &clock[3..5] <= b"59" && &clock[6..] <= b"59"
+    let common = fits(b"dd:dd:dd", clock) && &clock[..2] <= b"23" && &clock[3..5] <= b"59" && &clock[6..] <= b"59";
+    common || clock == b"23:59:60"
 }
 
 /// Nothing, or a period and 1 to 9 digits.
@@ -184,7 +192,8 @@ mod tests {
     fn epochs() {
         for good in [
             "2000-02-29T00:00:00", "2000-366T23:59:59", "2001-365T00:00:00", "0001-001T00:00:00", "9999-12-31T23:59:59.999999999",
-            "2000-01-01T00:00:00.1", "2400-02-29T00:00:00",
+            "2000-01-01T00:00:00.1", "2400-02-29T00:00:00", "2016-12-31T23:59:60", "2016-366T23:59:60", "2015-03-17T23:59:60.5",
+            "0001-001T23:59:60.999999999", "9999-12-31T23:59:60.0",
         ] {
             assert!(is_epoch(good.as_bytes()), "{good}");
         }
@@ -193,7 +202,9 @@ mod tests {
             "2000-01-01T00:60:00", "2000-01-01T00:00:60", "0000-01-01T00:00:00", "2000-00-01T00:00:00", "2000-13-01T00:00:00",
             "2000-04-31T00:00:00", "2000-01-00T00:00:00", "2000-01-01T00:00:00.", "2000-01-01T00:00:00.1234567890", "2000-01-01T00:00:00Z",
             "2000-01-01 00:00:00", "2000-1-1T00:00:00", "2000-01-01T00:00", "2000-01-01t00:00:00", "2000-01-01T00:00:0",
-            "02000-01-01T00:00:00", "2000-01-01T00:00:00.1.2",
+            "02000-01-01T00:00:00", "2000-01-01T00:00:00.1.2", "2016-12-31T22:59:60", "2016-12-31T23:58:60", "2016-12-31T24:59:60",
+            "2016-12-31T23:60:60", "2016-12-31T23:59:61", "2016-12-31T23:59:99", "2016-366T22:59:60", "2016-366T23:59:61",
+            "2016-12-31T23:59:60.", "2016-12-31T23:59:60.1234567890", "2016-12-31T23:59:600", "2015-366T23:59:60", "2015-02-29T23:59:60",
         ] {
             assert!(!is_epoch(bad.as_bytes()), "{bad}");
         }
@@ -212,5 +223,18 @@ mod tests {
         assert!(at("1999-365T23:59:59.999999999") < at("2000-01-01T00:00:00"));
         assert!(at("2000-031T00:00:00") < at("2000-02-01T00:00:00"));
         assert!(at("0999-12-31T00:00:00") < at("1000-001T00:00:00"));
+    }
+
+    #[test]
+    fn second_60_lies_between_its_neighbours() {
+        let at = |text: &str| moment(text.as_bytes()).expect("an epoch");
+        let line = [
+            "2016-12-31T23:59:59.999999999", "2016-366T23:59:60", "2016-12-31T23:59:60.000000001", "2016-366T23:59:60.5",
+            "2016-12-31T23:59:60.999999999", "2017-001T00:00:00", "2017-01-01T00:00:00.000000001",
+        ];
+        line.windows(2).for_each(|pair| assert!(at(pair[0]) < at(pair[1]), "{pair:?}"));
+        assert_eq!(at("2016-12-31T23:59:60"), at("2016-366T23:59:60.000"));
+        assert!(at("2016-12-31T23:59:60").is_at_second_60() && at("2016-366T23:59:60.5").is_at_second_60());
+        assert!(!at("2016-12-31T23:59:59.60").is_at_second_60() && !at("2060-01-01T00:00:06").is_at_second_60());
     }
 }

@@ -24,6 +24,8 @@ pub const MAN_EPOCH_IGNITION: u8 = 29;
 pub const META_START: u8 = 37;
 
 /// Codes that the rules name one by one.
+pub const CREATION_DATE: u8 = 2;
+pub const TIME_SYSTEM: u8 = 8;
 pub const META_STOP: u8 = 44;
 pub const COMMENT: u8 = 45;
 pub const START_TIME: u8 = 38;
@@ -110,6 +112,21 @@ mod tests {
             assert_eq!(named(word.name.as_bytes()), Some(word));
             assert_eq!(coded(word.code), word);
         }
+    }
+
+    #[test]
+    fn codes_named_one_by_one_are_those_of_their_names() {
+        let named = [
+            (CREATION_DATE, "CREATION_DATE"),
+            (TIME_SYSTEM, "TIME_SYSTEM"),
+            (MAN_EPOCH_IGNITION, "MAN_EPOCH_IGNITION"),
+            (META_START, "META_START"),
+            (START_TIME, "START_TIME"),
+            (STOP_TIME, "STOP_TIME"),
+            (META_STOP, "META_STOP"),
+            (COMMENT, "COMMENT"),
+        ];
+        named.iter().for_each(|(code, name)| assert_eq!(coded(*code).name, *name));
     }
 
     #[test]

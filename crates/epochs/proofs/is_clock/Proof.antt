@@ -31,12 +31,24 @@ add-two-at-2 c = search needs
 two-at-requires-3 : tie.Need-two-at-requires-3
 two-at-requires-3 c κs = search needs
 
+last-second-requires : tie.Need-last-second-requires
+last-second-requires c κs = search needs
+
 returns-3 : tie.Need-returns-3
 unfolding isClock
 returns-3 c =
-    let b = c .before in
+    let b = c .before .before in
     let d = b .before .before in
-    rw (← d .before .two-at .ensures .0, ← b .before .two-at2 .ensures .0, ← c .two-at3 .ensures .0, le-leb _ _ (d .if1 .left), le-leb _ _ (b .if2 .left))
+    rw (
+      c .last-second .ensures,
+      d .before .two-at .ensures .0,
+      b .before .two-at2 .ensures .0,
+      c .before .two-at3 .ensures .0,
+      ← d .before .two-at .ensures .0,
+      ← b .before .two-at2 .ensures .0,
+      le-leb _ _ (d .if1 .left),
+      le-leb _ _ (b .if2 .left),
+    )
 
 pub is-clock-spec : {M : Type 1} → statement M
 is-clock-spec =
@@ -49,4 +61,5 @@ is-clock-spec =
     returns-2
     add-two-at-2
     two-at-requires-3
+    last-second-requires
     returns-3)

@@ -59,6 +59,12 @@ returns-4 c =
       timedOf,
     )
 
+mul-date : tie.Need-mul-date
+mul-date c = search needs
+
+add-date : tie.Need-add-date
+add-date c = search needs
+
 second-at-requires : tie.Need-second-at-requires
 second-at-requires c κs = search needs
 
@@ -67,12 +73,6 @@ add-nano-at c = search needs
 
 nano-at-requires : tie.Need-nano-at-requires
 nano-at-requires c κs = search needs
-
-mul-t10 : tie.Need-mul-t10
-mul-t10 c = search needs
-
-add-t11 : tie.Need-add-t11
-add-t11 c = search needs
 
 returns-5 : tie.Need-returns-5
 unfolding timedOf
@@ -106,9 +106,9 @@ timed-spec =
     add-is-fraction
     is-fraction-requires
     returns-4
+    mul-date
+    add-date
     second-at-requires
     add-nano-at
     nano-at-requires
-    mul-t10
-    add-t11
     returns-5)

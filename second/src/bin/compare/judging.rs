@@ -16,6 +16,7 @@ pub fn compare_judged(asked: &Judging, generated: bool, face: Option<&mut Face>,
     tally.answers += 1 + answers.len();
     if generated {
         answers.iter().for_each(|answer| tally.judged.add(as_judged(answer).reason));
+        tally.sixties.add(&asked.feed, &feed, asked.messages.iter().copied().zip(&answers));
     }
     let mut facts = check_known(asked, headings, &answers);
     facts.extend(asked.messages.iter().zip(&answers).flat_map(|(message, answer)| check_earliest(asked, &feed, *message, answer)));

@@ -3,6 +3,7 @@
 mod desks;
 mod items;
 mod judging;
+mod sixty;
 mod tally;
 
 use items::{case_item, desk_items, generated_items, Ask, Item};

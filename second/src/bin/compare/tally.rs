@@ -1,11 +1,12 @@
 //! What has been counted, what it says at the end, and what is kept of a difference.
 
 use crate::items::Item;
+use crate::sixty::Sixties;
 use second::desk::reason_name;
 use std::ops::RangeInclusive;
 use std::path::{Path, PathBuf};
 
-/// Each 20,000 generated feeds must bring every reason this often.
+/// Each 20,000 generated feeds must bring every reason, and every case of second 60, this often.
 const FLOOR: usize = 100;
 pub const FLOOR_FEEDS: usize = 20_000;
 
@@ -42,7 +43,7 @@ impl Counts {
     }
 }
 
-/// What has been counted so far; the reasons are those of generated feeds alone.
+/// What has been counted so far; the reasons and the second 60 are those of generated feeds alone.
 pub struct Tally {
     pub feeds: usize,
     pub answers: usize,
@@ -50,6 +51,7 @@ pub struct Tally {
     pub judged: Counts,
     pub loads: Counts,
     pub tickets: Counts,
+    pub sixties: Sixties,
     save: PathBuf,
 }
 
@@ -62,21 +64,23 @@ impl Tally {
             judged: Counts::new("generated judgements", "accepted", 1..=11),
             loads: Counts::new("generated loads", "accepted", 1..=13),
             tickets: Counts::new("generated tickets", "answered", 14..=16),
+            sixties: Sixties::default(),
             save: save_directory(),
         }
     }
 
-    /// Says what was counted; true if there was no difference and every reason came often enough.
+    /// Says what was counted; true if there was no difference and everything came often enough.
     pub fn report(&self, generated: usize) -> bool {
         let floor = if generated < FLOOR_FEEDS { 0 } else { FLOOR * (generated / FLOOR_FEEDS) };
         let kinds = [&self.judged, &self.loads, &self.tickets];
-        let rare: Vec<String> = kinds.iter().flat_map(|counts| counts.rare(floor)).collect();
-        // A run that stopped early has not had the time to bring every reason.
+        let rare: Vec<String> = kinds.iter().flat_map(|counts| counts.rare(floor)).chain(self.sixties.rare(floor)).collect();
+        // A run that stopped early has not had the time to bring everything.
         let too_rare = self.differences == 0 && !rare.is_empty();
         if too_rare {
             rare.iter().for_each(|words| println!("{words}"));
         }
         kinds.iter().for_each(|counts| println!("{}", counts.words()));
+        println!("{}", self.sixties.words());
         println!("{} feeds, {} answers, {} differences", self.feeds, self.answers, self.differences);
         self.differences == 0 && !too_rare
     }
@@ -113,4 +117,32 @@ fn write_file(path: &Path, bytes: &[u8]) -> std::io::Result<()> {
         std::fs::create_dir_all(directory)?;
     }
     std::fs::write(path, bytes)
+}
+
+#[cfg(test)]
+mod tests {
+    use super::*;
+
+    /// A tally in which every reason came just often enough.
+    fn whole(sixties: [usize; 6]) -> Tally {
+        let mut tally = Tally::new();
+        for counts in [&mut tally.judged, &mut tally.loads, &mut tally.tickets] {
+            counts.reasons.clone().for_each(|reason| (0..FLOOR).for_each(|_| counts.add(reason)));
+        }
+        tally.sixties = Sixties::of(sixties);
+        tally
+    }
+
+    #[test]
+    fn a_run_that_lacks_a_case_of_second_60_fails() {
+        assert!(whole([FLOOR; 6]).report(FLOOR_FEEDS));
+        for at in 0..6 {
+            let mut few = [FLOOR; 6];
+            few[at] = FLOOR - 1;
+            assert!(!whole(few).report(FLOOR_FEEDS));
+            // A shorter run has no floor, and a longer one a higher floor.
+            assert!(whole(few).report(FLOOR_FEEDS - 1));
+        }
+        assert!(!whole([FLOOR; 6]).report(2 * FLOOR_FEEDS));
+    }
 }

@@ -3,6 +3,7 @@
 use mathlib.Core.Path.{_∙_, sym}
 use borrow.Author.Tests.{not-true, not-false}
 use Rattle.step.specs.Step.{dataOf}
+use Rattle.step.proofs.Laws.{epoch-read}
 use borrow.Author.Needs.{needs}
 use Rattle.step.proofs.State.data.Statement.{statement}
 use Rattle.step.proofs.State.data.Tie as tie
@@ -29,6 +30,9 @@ part-epoch-of-start c = c .before .before .before .before .before .pre .inside 0
 part-epoch-of-end : tie.Need-part-epoch-of-end
 part-epoch-of-end c = c .before .before .before .before .before .pre .inside 0 .end
 
+sixty-stands-requires : tie.Need-sixty-stands-requires
+sixty-stands-requires c κs = search needs
+
 epoch-of-requires : tie.Need-epoch-of-requires
 epoch-of-requires c κs = search needs
 
@@ -48,17 +52,17 @@ returns-2 : tie.Need-returns-2
 unfolding dataOf
 returns-2 c =
     let e = c .before .before .before in
-    let i = e .before .before .before .before in
+    let i = e .before .before .before .before .before in
     c .wrong2 .ensures
-    ∙ rw (sym (i .before .fits2 .ensures) ∙ not-false _ (i .if1 .left), dataOf) (rw (sym (e .epoch-of .ensures) ∙ c .before .enum-told .given .1))
+    ∙ rw (sym (i .before .fits2 .ensures) ∙ not-false _ (i .if1 .left), dataOf) (rw (epoch-read _ _ _ _ (e .epoch-of .ensures) (e .before .sixty-stands .ensures) ∙ c .before .enum-told .given .1))
 
 returns-3 : tie.Need-returns-3
 unfolding dataOf
 returns-3 c =
     let e = c .before .before .before .before in
-    let i = e .before .before .before .before in
+    let i = e .before .before .before .before .before in
     c .data-at .ensures
-    ∙ rw (sym (i .before .fits2 .ensures) ∙ not-false _ (i .if1 .left), dataOf) (rw (sym (e .epoch-of .ensures) ∙ c .before .before .t .given .1))
+    ∙ rw (sym (i .before .fits2 .ensures) ∙ not-false _ (i .if1 .left), dataOf) (rw (epoch-read _ _ _ _ (e .epoch-of .ensures) (e .before .sixty-stands .ensures) ∙ c .before .before .t .given .1))
 
 pub data-spec : {M : Type 1} → statement M
 data-spec =
@@ -71,6 +75,7 @@ data-spec =
     sub-epoch-of
     part-epoch-of-start
     part-epoch-of-end
+    sixty-stands-requires
     epoch-of-requires
     enum-told
     wrong-requires-2

@@ -30,20 +30,8 @@ whole-requires c κs = search needs
 enum-told-2 : tie.Need-enum-told-2
 enum-told-2 c = search needs
 
-sub-is-text : tie.Need-sub-is-text
-sub-is-text c = search needs
-
-part-is-text-start : tie.Need-part-is-text-start
-part-is-text-start c = search needs
-
-part-is-text-end : tie.Need-part-is-text-end
-part-is-text-end c = search needs
-
-is-text-requires : tie.Need-is-text-requires
-is-text-requires c κs = search needs
-
-whole-requires-2 : tie.Need-whole-requires-2
-whole-requires-2 c κs = search needs
+text-requires : tie.Need-text-requires
+text-requires c κs = search needs
 
 enum-told-3 : tie.Need-enum-told-3
 enum-told-3 c = search needs
@@ -60,8 +48,8 @@ part-is-integer-end c = search needs
 is-integer-requires : tie.Need-is-integer-requires
 is-integer-requires c κs = search needs
 
-whole-requires-3 : tie.Need-whole-requires-3
-whole-requires-3 c κs = search needs
+whole-requires-2 : tie.Need-whole-requires-2
+whole-requires-2 c κs = search needs
 
 enum-told-4 : tie.Need-enum-told-4
 enum-told-4 c = search needs
@@ -89,15 +77,13 @@ returns c =
 
 returns-2 : tie.Need-returns-2
 unfolding valueOf
-returns-2 c =
-    let k = c .before .before .before in
-    c .whole2 .ensures ∙ rw (c .before .is-text .ensures) (rw (sym (k .before .before .kind-of .ensures) ∙ k .enum-told2 .given .1, valueOf))
+returns-2 c = c .text .ensures ∙ rw (sym (c .before .before .before .kind-of .ensures) ∙ c .before .enum-told2 .given .1, valueOf)
 
 returns-3 : tie.Need-returns-3
 unfolding valueOf
 returns-3 c =
     let k = c .before .before .before in
-    c .whole3 .ensures ∙ rw (c .before .is-integer .ensures) (rw (sym (k .before .before .kind-of .ensures) ∙ k .enum-told3 .given .1, valueOf))
+    c .whole2 .ensures ∙ rw (c .before .is-integer .ensures) (rw (sym (k .before .before .kind-of .ensures) ∙ k .enum-told3 .given .1, valueOf))
 
 returns-4 : tie.Need-returns-4
 unfolding valueOf
@@ -123,17 +109,13 @@ value-spec =
     is-version-requires
     whole-requires
     enum-told-2
-    sub-is-text
-    part-is-text-start
-    part-is-text-end
-    is-text-requires
-    whole-requires-2
+    text-requires
     enum-told-3
     sub-is-integer
     part-is-integer-start
     part-is-integer-end
     is-integer-requires
-    whole-requires-3
+    whole-requires-2
     enum-told-4
     number-requires
     enum-told-5
