@@ -146,6 +146,7 @@ pastText st c v =
       | false ↦ past st c
     ]
 
+-- "Text (3 to 8, 32, 42): one byte or more.", the whole trimmed field too
 unfoldable pub textOf : State → ℕ → Span → List ℕ → Step
 textOf st c p s = elim (isText (part p s)) [ false ↦ wrong st Reasons.Value | true ↦ oneRow (pastText st c (part p s)) c p ]
 
