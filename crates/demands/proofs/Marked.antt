@@ -16,7 +16,7 @@ use Rattle.grammar.specs.Rows.{pick}
 use Rattle.keywords.specs.Keywords.{keywords, codeIn}
 use Rattle.grammar.specs.Keywords.{keywordOf, isUnit}
 use Rattle.grammar.specs.Order.{nextOf, allows}
-use Rattle.step.specs.Step.{sixtyStands, isTimely, areNumbers, dataAt, dataOf, fieldsOf, wholeOf, pastText, textOf, numberOf, pastTime, isEarly, timeOf, valueOf, assignOf, metaCode, metaOf, plainOf, pastComment, uncommentedOf, filledOf, stepOf}
+use Rattle.step.specs.Step.{sixtyStands, isTimely, areNumbers, dataAt, dataOf, fieldsOf, pastWhole, wholeOf, numberOf, pastTime, isEarly, timeOf, valueOf, assignOf, metaCode, metaOf, plainOf, pastComment, uncommentedOf, filledOf, stepOf}
 use Rattle.judge.specs.Message.{fromHeading, headings, upTo, messageOf, endOf, judgeTexts, judgeLines, judgeOf, groupOf, rowsAt, rowsFrom, rowsLines}
 use Rattle.desk.specs.Loads.{deskAfter, loadOf}
 use Rattle.rows.specs.Place.{roomFor}
@@ -50,7 +50,7 @@ unfolding bytes agrees isLeap monthDays daysBefore monthDay lastSecond isClock i
 no-sixty v may e n = ap (λ (w : List ℕ). epochOf w may) e ∙ ap (epochOf (bytes sixty)) n
 
 any-state : InAnyState
-unfolding pastText timeOf dataOf
+unfolding pastWhole timeOf dataOf
 any-state = (
   (λ st v. refl),
   (λ st c p s n u e. rw (no-sixty _ (sixtyStands st c) e (rw n u), timeOf)),
@@ -59,7 +59,7 @@ any-state = (
 
 -- one declaration, so that the definitions are opened once
 both : Marked × Met
-unfolding has bytes agrees run isWord lastLine linesFrom linesBefore cutEnd trimOf heads headingOf wordEnds commentOf sidesOf assignmentOf fieldThen fieldsFrom fieldMore gathered signLen isExponent endsNumber afterWhole isNumber digitsFrom integerTop isInteger isLeap monthDays daysBefore monthDay yearDay lastSecond isClock isFraction timedOf epochOf isBefore pick keywords codeIn keywordOf isUnit nextOf allows isTimely areNumbers dataAt dataOf fieldsOf wholeOf pastText textOf numberOf pastTime isEarly timeOf valueOf assignOf metaCode metaOf plainOf pastComment uncommentedOf filledOf stepOf fromHeading headings upTo messageOf endOf judgeTexts judgeLines judgeOf groupOf rowsAt rowsFrom rowsLines roomFor deskAfter loadOf
+unfolding has bytes agrees run isWord lastLine linesFrom linesBefore cutEnd trimOf heads headingOf wordEnds commentOf sidesOf assignmentOf fieldThen fieldsFrom fieldMore gathered signLen isExponent endsNumber afterWhole isNumber digitsFrom integerTop isInteger isLeap monthDays daysBefore monthDay yearDay lastSecond isClock isFraction timedOf epochOf isBefore pick keywords codeIn keywordOf isUnit nextOf allows isTimely areNumbers dataAt dataOf fieldsOf pastWhole wholeOf numberOf pastTime isEarly timeOf valueOf assignOf metaCode metaOf plainOf pastComment uncommentedOf filledOf stepOf fromHeading headings upTo messageOf endOf judgeTexts judgeLines judgeOf groupOf rowsAt rowsFrom rowsLines roomFor deskAfter loadOf
 both =
     let sixties : Sixty = (
       (refl, refl, refl, refl, refl, (λ b. refl), (λ b. refl), sixty-one),

@@ -14,7 +14,7 @@ use Rattle.lines.specs.declared.Fields.{Fields}
 use Rattle.epochs.specs.Epoch.{epochOf, isBefore}
 use Rattle.epochs.specs.declared.Epoch.{Epoch}
 use Rattle.epochs.specs.declared.Epoch.the-variants.{At, Bad}
-use Rattle.step.specs.Step.{wrong, fitsHere, part, dataOf, pastText, timeOf}
+use Rattle.step.specs.Step.{wrong, fitsHere, part, dataOf, pastWhole, timeOf}
 use Rattle.step.specs.declared.State.{State}
 use Rattle.step.specs.declared.Reason.the-variants as Reasons
 use Rattle.judge.specs.Message.{judgeOf}
@@ -112,7 +112,7 @@ InOrder =
 -- "exactly `UTC`": TIME_SYSTEM says it by its value alone, and without it second 60 is VALUE, whatever the state, in an assignment and in a data line
 abbrev pub InAnyState : Type 0
 InAnyState =
-    ((st : State) (v : List ℕ) → pastText st 8 v .utc ≡ isWord (bytes "UTC") v)
+    ((st : State) (v : List ℕ) → pastWhole st 8 v .utc ≡ isWord (bytes "UTC") v)
     × ((st : State) (c : ℕ) (p : Span) (s : List ℕ) → eqb c 2 ≡ false → st .utc ≡ false → part p s ≡ bytes sixty → timeOf st c p s ≡ wrong st Reasons.Value)
     × ((st : State) (f : Fields) (s : List ℕ) → fitsHere st 9 ≡ true → st .utc ≡ false → part (getD (f .spans) 0 noSpan) s ≡ bytes sixty
     → dataOf st f s ≡ wrong st Reasons.Value)

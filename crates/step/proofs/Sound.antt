@@ -32,7 +32,7 @@ use Rattle.grammar.specs.declared.Keyword.the-variants.{Code, Unknown}
 use Rattle.grammar.specs.declared.Kind.{Kind}
 use Rattle.grammar.specs.declared.Kind.the-variants.{Version, Text, Integer, Number, Epoch, Nothing}
 use Rattle.values.specs.Number.{isNumber, isText, isVersion, isInteger}
-use Rattle.step.specs.Step.{wrong, noRow, oneRow, sevenRows, fitsHere, sixtyStands, part, Inside, SevenInside, areNumbers, isTimely, dataAt, dataOf, fieldsOf, wholeOf, textOf, wordLen, numberOf, pastTime, isEarly, timeOf, valueOf, assignOf, metaCode, metaOf, plainOf, pastComment, uncommentedOf, filledOf, stepOf}
+use Rattle.step.specs.Step.{wrong, noRow, oneRow, sevenRows, fitsHere, sixtyStands, part, Inside, SevenInside, areNumbers, isTimely, dataAt, dataOf, fieldsOf, wholeOf, wordLen, numberOf, pastTime, isEarly, timeOf, valueOf, assignOf, metaCode, metaOf, plainOf, pastComment, uncommentedOf, filledOf, stepOf}
 use Rattle.step.specs.declared.State.{State}
 use Rattle.step.specs.declared.Step.{Step}
 use Rattle.step.specs.declared.Reason.{Reason}
@@ -138,13 +138,9 @@ module _ (s : List ℕ) where
     meta-good c n k h = either (fitsHere st c) (one _ c _ k (record { order = omega arith; end = h })) (offence st _)
 
     module _ (c : ℕ) (p : Span) (k : c ≤ 45) (h : Inside p s) where
-      whole-good : (t : Bool) → Good s (wholeOf st c p t)
+      whole-good : (t : Bool) → Good s (wholeOf st c p (part p s) t)
       unfolding wholeOf
       whole-good t = either t (one _ c p k h) (offence st _)
-
-      text-good : Good s (textOf st c p s)
-      unfolding textOf
-      text-good = either (isText (part p s)) (one _ c p k h) (offence st _)
 
       time-good : Good s (timeOf st c p s)
       unfolding timeOf
@@ -172,15 +168,15 @@ module _ (s : List ℕ) where
         where
           go : (q : Kind)
               → Good s (elim q [
-                | Version ↦ wholeOf st c p (isVersion (part p s))
-                | Text ↦ textOf st c p s
-                | Integer ↦ wholeOf st c p (isInteger (part p s))
+                | Version ↦ wholeOf st c p (part p s) (isVersion (part p s))
+                | Text ↦ wholeOf st c p (part p s) (isText (part p s))
+                | Integer ↦ wholeOf st c p (part p s) (isInteger (part p s))
                 | Number ↦ numberOf st c p s
                 | Epoch ↦ timeOf st c p s
                 | Nothing ↦ wrong st Reasons.Value
               ])
           go Version = whole-good _
-          go Text = text-good
+          go Text = whole-good _
           go Integer = whole-good _
           go Number = number-good
           go Epoch = time-good

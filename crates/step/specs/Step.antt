@@ -134,21 +134,17 @@ fieldsOf st s =
 
 -- ---- assignments
 
--- "Texts, integers [..] are the whole trimmed field." The heading's value too.
-unfoldable pub wholeOf : State → ℕ → Span → Bool → Step
-wholeOf st c p right = elim right [ false ↦ wrong st Reasons.Value | true ↦ oneRow (past st c) c p ]
-
--- a text of this code and value has stood; TIME_SYSTEM is kept for the epochs after it: is it "exactly `UTC`"?
-unfoldable pub pastText : State → ℕ → List ℕ → State
-pastText st c v =
+-- a line of this code and value has stood; TIME_SYSTEM is kept for the epochs after it: is it "exactly `UTC`"?
+unfoldable pub pastWhole : State → ℕ → List ℕ → State
+pastWhole st c v =
     elim (eqb c 8) [
       | true ↦ record { form = st .form; last = c; utc = isWord (bytes "UTC") v; start = st .start; latest = st .latest; seen = st .seen }
       | false ↦ past st c
     ]
 
--- "Text (3 to 8, 32, 42): one byte or more.", the whole trimmed field too
-unfoldable pub textOf : State → ℕ → Span → List ℕ → Step
-textOf st c p s = elim (isText (part p s)) [ false ↦ wrong st Reasons.Value | true ↦ oneRow (pastText st c (part p s)) c p ]
+-- "Texts, integers [..] are the whole trimmed field." The heading's value too. Here v is the field.
+unfoldable pub wholeOf : State → ℕ → Span → List ℕ → Bool → Step
+wholeOf st c p v right = elim right [ false ↦ wrong st Reasons.Value | true ↦ oneRow (pastWhole st c v) c p ]
 
 -- how many bytes stand before the first blank
 abbrev pub wordLen : List ℕ → ℕ
@@ -195,9 +191,9 @@ timeOf st c p s =
 unfoldable pub valueOf : State → ℕ → Span → List ℕ → Step
 valueOf st c p s =
     elim (kindOf c) [
-      | Version ↦ wholeOf st c p (isVersion (part p s))
-      | Text ↦ textOf st c p s
-      | Integer ↦ wholeOf st c p (isInteger (part p s))
+      | Version ↦ wholeOf st c p (part p s) (isVersion (part p s))
+      | Text ↦ wholeOf st c p (part p s) (isText (part p s))
+      | Integer ↦ wholeOf st c p (part p s) (isInteger (part p s))
       | Number ↦ numberOf st c p s
       | Epoch ↦ timeOf st c p s
       | Nothing ↦ wrong st Reasons.Value

@@ -16,7 +16,7 @@ use words::is_word;
 ghost use mathlib.Core.Path.{_≡_};
 ghost use lib.ListN.{drop};
 ghost use Rattle.step.specs.Reasons.{reasonNo};
-ghost use Rattle.step.specs.Step.{wrong, noRow, oneRow, freshState, past, fitsHere, sixtyStands, Inside, SevenInside, isTimely, areNumbers, pastData, dataAt, dataOf, fieldsOf, wholeOf, pastText, textOf, numberOf, pastTime, isEarly, timeOf, valueOf, assignOf, metaCode, metaOf, plainOf, pastComment, uncommentedOf, filledOf, stepOf};
+ghost use Rattle.step.specs.Step.{wrong, noRow, oneRow, freshState, past, fitsHere, sixtyStands, Inside, SevenInside, isTimely, areNumbers, pastData, dataAt, dataOf, fieldsOf, pastWhole, wholeOf, numberOf, pastTime, isEarly, timeOf, valueOf, assignOf, metaCode, metaOf, plainOf, pastComment, uncommentedOf, filledOf, stepOf};
 
 // Why a load or a ticket is refused, in the order of document 01's numbers.
 pub enum Reason {
@@ -298,26 +298,16 @@ impl State {
         }
     }
 
-    // A value that is its whole field.
-    fn whole(self, code: u16, p: Span, right: bool) -> Step
-        ensures { λ r. ⌜ r ≡ wholeOf self code p right ⌝ }
-    {
-        if !right {
-            return self.wrong(Reason::Value);
-        }
-        self.past(code).one_row(code, p)
-    }
-
-    // A text of this code has stood; of TIME_SYSTEM's the epochs after it need to know whether it is UTC.
-    fn past_text(self, code: u16, value: &[u8]) -> State
-        ensures { λ r. ⌜ r ≡ pastText self code (now (value .entry)) ⌝ }
+    // A line of this code and value has stood; of TIME_SYSTEM's the epochs after it need to know whether it is UTC.
+    fn past_whole(self, code: u16, field: &[u8]) -> State
+        ensures { λ r. ⌜ r ≡ pastWhole self code (now (field .entry)) ⌝ }
     {
         let mut next = self;
         next.last = code;
         if code != 8 {
             return next;
         }
-        if is_word(value, b"UTC") {
+        if is_word(field, b"UTC") {
             next.utc = true;
             return next;
         }
@@ -325,18 +315,14 @@ impl State {
         next
     }
 
-    // A text.
-    fn text(self, code: u16, p: Span, text: &[u8]) -> Step
-        requires { ⌜ Inside p (now text) ⌝ }
-        ensures { λ r. ⌜ r ≡ textOf self code p (now (text .entry)) ⌝ }
+    // A value that is its whole field.
+    fn whole(self, code: u16, p: Span, field: &[u8], right: bool) -> Step
+        ensures { λ r. ⌜ r ≡ wholeOf self code p (now (field .entry)) right ⌝ }
     {
-        let from = p.from;
-        let to = p.to;
-        let whole = &text[from..to];
-        if !values::is_text(whole) {
+        if !right {
             return self.wrong(Reason::Value);
         }
-        self.past_text(code, whole).one_row(code, p)
+        self.past_whole(code, field).one_row(code, p)
     }
 
     // A number, which ends at the first blank, and its unit.
@@ -421,10 +407,11 @@ impl State {
     {
         let from = p.from;
         let to = p.to;
+        let field = &text[from..to];
         match grammar::kind_of(code) {
-            Kind::Version => self.whole(code, p, values::is_version(&text[from..to])),
-            Kind::Text => self.text(code, p, text),
-            Kind::Integer => self.whole(code, p, values::is_integer(&text[from..to])),
+            Kind::Version => self.whole(code, p, field, values::is_version(field)),
+            Kind::Text => self.whole(code, p, field, values::is_text(field)),
+            Kind::Integer => self.whole(code, p, field, values::is_integer(field)),
             Kind::Number => self.number(code, p, text),
             Kind::Epoch => self.time(code, p, text),
             Kind::Nothing => self.wrong(Reason::Value),

@@ -6,20 +6,20 @@ use borrow.Author.Needs.{needs}
 use Rattle.step.proofs.State.value.Statement.{statement}
 use Rattle.step.proofs.State.value.Tie as tie
 
+sub-field : tie.Need-sub-field
+sub-field c = search needs
+
+part-field-start : tie.Need-part-field-start
+part-field-start c = search needs
+
+part-field-end : tie.Need-part-field-end
+part-field-end c = search needs
+
 kind-of-requires : tie.Need-kind-of-requires
 kind-of-requires c κs = search needs
 
 enum-told : tie.Need-enum-told
 enum-told c = search needs
-
-sub-is-version : tie.Need-sub-is-version
-sub-is-version c = search needs
-
-part-is-version-start : tie.Need-part-is-version-start
-part-is-version-start c = search needs
-
-part-is-version-end : tie.Need-part-is-version-end
-part-is-version-end c = search needs
 
 is-version-requires : tie.Need-is-version-requires
 is-version-requires c κs = search needs
@@ -30,26 +30,20 @@ whole-requires c κs = search needs
 enum-told-2 : tie.Need-enum-told-2
 enum-told-2 c = search needs
 
-text-requires : tie.Need-text-requires
-text-requires c κs = search needs
+is-text-requires : tie.Need-is-text-requires
+is-text-requires c κs = search needs
+
+whole-requires-2 : tie.Need-whole-requires-2
+whole-requires-2 c κs = search needs
 
 enum-told-3 : tie.Need-enum-told-3
 enum-told-3 c = search needs
 
-sub-is-integer : tie.Need-sub-is-integer
-sub-is-integer c = search needs
-
-part-is-integer-start : tie.Need-part-is-integer-start
-part-is-integer-start c = search needs
-
-part-is-integer-end : tie.Need-part-is-integer-end
-part-is-integer-end c = search needs
-
 is-integer-requires : tie.Need-is-integer-requires
 is-integer-requires c κs = search needs
 
-whole-requires-2 : tie.Need-whole-requires-2
-whole-requires-2 c κs = search needs
+whole-requires-3 : tie.Need-whole-requires-3
+whole-requires-3 c κs = search needs
 
 enum-told-4 : tie.Need-enum-told-4
 enum-told-4 c = search needs
@@ -72,18 +66,20 @@ wrong-requires c κs = search needs
 returns : tie.Need-returns
 unfolding valueOf
 returns c =
-    let k = c .before .before .before in
+    let k = c .before .before in
     c .whole .ensures ∙ rw (c .before .is-version .ensures) (rw (sym (k .before .before .kind-of .ensures) ∙ k .enum-told .given .1, valueOf))
 
 returns-2 : tie.Need-returns-2
 unfolding valueOf
-returns-2 c = c .text .ensures ∙ rw (sym (c .before .before .before .kind-of .ensures) ∙ c .before .enum-told2 .given .1, valueOf)
+returns-2 c =
+    let k = c .before .before in
+    c .whole2 .ensures ∙ rw (c .before .is-text .ensures) (rw (sym (k .before .before .kind-of .ensures) ∙ k .enum-told2 .given .1, valueOf))
 
 returns-3 : tie.Need-returns-3
 unfolding valueOf
 returns-3 c =
-    let k = c .before .before .before in
-    c .whole2 .ensures ∙ rw (c .before .is-integer .ensures) (rw (sym (k .before .before .kind-of .ensures) ∙ k .enum-told3 .given .1, valueOf))
+    let k = c .before .before in
+    c .whole3 .ensures ∙ rw (c .before .is-integer .ensures) (rw (sym (k .before .before .kind-of .ensures) ∙ k .enum-told3 .given .1, valueOf))
 
 returns-4 : tie.Need-returns-4
 unfolding valueOf
@@ -101,21 +97,19 @@ pub value-spec : {M : Type 1} → statement M
 value-spec =
     tie.close
     (tie.spec
+    sub-field
+    part-field-start
+    part-field-end
     kind-of-requires
     enum-told
-    sub-is-version
-    part-is-version-start
-    part-is-version-end
     is-version-requires
     whole-requires
     enum-told-2
-    text-requires
-    enum-told-3
-    sub-is-integer
-    part-is-integer-start
-    part-is-integer-end
-    is-integer-requires
+    is-text-requires
     whole-requires-2
+    enum-told-3
+    is-integer-requires
+    whole-requires-3
     enum-told-4
     number-requires
     enum-told-5
