@@ -7,7 +7,7 @@ use mathlib.Core.Bool.{Bool, true, false, not, _&&_}
 use Prim.Native.Nat.{ℕ, _+_, _-_, _≤_, _<_}
 use native.Mathlib.Omega.{arith}
 use lib.Dec.{ltb}
-use lib.ListN.{length, take, drop, length-drop, drop-of-length-le}
+use lib.ListN.{length, take, drop, length-take, length-drop, drop-of-length-le}
 use lib.Seq.{drop-drop}
 use borrow.Author.Tests.{eq-eqb, ne-eqb, lt-ltb, le-ltb, ltb-true, ltb-false}
 use Rattle.lines.specs.declared.Ends.{Ends}
@@ -22,11 +22,12 @@ use Rattle.step.specs.declared.Reason.the-variants as Reasons
 use Rattle.step.specs.declared.Verdict.{Verdict}
 use Rattle.step.specs.declared.Verdict.the-variants.{Right, Wrong}
 use Rattle.judge.specs.declared.Found.the-variants.{Place, Missing}
-use Rattle.judge.specs.declared.Judged.the-variants.{Refused}
+use Rattle.judge.specs.declared.Judged.{Judged}
+use Rattle.judge.specs.declared.Judged.the-variants.{Accepted, Refused}
 use Rattle.judge.specs.declared.Met.{Met}
 use Rattle.judge.specs.declared.Met.the-variants.{End, Offence, Within}
 use Rattle.judge.specs.declared.Moved.{Moved}
-use Rattle.judge.specs.Message.{isHeading, formOf, fromHeading, headings, upTo, texts, endOf, judgeTexts, judgeLines, messageOf, judgeOf, metOf, movedOf, foundOf, FoundIs}
+use Rattle.judge.specs.Message.{isHeading, formOf, fromHeading, headings, upTo, texts, endOf, judgeTexts, judgeLines, messageOf, judgeOf, metOf, movedOf, foundOf, FoundIs, rowsFrom, rowsLines, rowsOf}
 
 -- ---- past the feed's end
 
@@ -144,7 +145,26 @@ pub record AtLine (f : List ℕ) (at : ℕ) (first : Bool) (st : State) (m : Mov
   pub step : m .step ≡ stepOf st text
   pub met : m .met ≡ metOf (m .step .verdict)
   pub on : at < m .next
+  pub fits : at + length text ≤ m .next
   pub next : m .next ≤ length f
+
+-- a message's lines start with the first of those left
+first-same : (first : Bool) (a b : Line) (xs ys : List Line) → upTo first (a ∷ xs) ≡ b ∷ ys → a ≡ b
+unfolding upTo
+first-same first a b xs ys = go (not first && isHeading (a .text))
+  where
+    go : (t : Bool) → elim t [ true ↦ [] | false ↦ a ∷ upTo false xs ] ≡ b ∷ ys → a ≡ b
+    go true e = cc
+    go false e = cc
+
+module _ (f : List ℕ) (at : ℕ) (first : Bool) (st : State) (m : Moved) (w : AtLine f at first st m) where
+  -- its text is what stands up to the first ending
+  pub line-text : w .text ≡ take (textLen (drop at f)) (drop at f)
+  line-text =
+      let e = endsOf at (drop at f) in
+      let h : at < length f = omega (arith, w .on, w .next) in
+      let p = first-same first _ _ _ _ (ap (upTo first) (sym (line-left f at e h refl)) ∙ w .more) in
+      sym (ap (λ (l : Line). l .text) p) ∙ text-left at (drop at f) e refl
 
 -- a verdict is no end, and what is met of it says which it was
 met-end : (v : Verdict) → metOf v ≡ End → ⊥
@@ -177,6 +197,7 @@ module _ (f : List ℕ) (at : ℕ) (first : Bool) (st : State) (m : Moved) (q : 
         step = ap (λ (x : Moved). x .step) k;
         met = rw k;
         on = rw k (w .on);
+        fits = rw k (simp (length-take, length-drop) (omega (arith, w .start, w .ends)));
         next = rw k (w .next);
       })
 
@@ -235,3 +256,26 @@ module _ (f : List ℕ) (k : ℕ) where
     judge-found p form q =
         let e = endsOf p (drop p f) in
         rw (le-ltb _ _ h, judgeOf) (rw (q .0, up-more f p e (q .1) refl true refl) (rw (text-left p (drop p f) e refl, q .2)))
+
+-- no message is both accepted and refused
+pub not-both : {j : Judged} {n l : ℕ} {r : Reason} → j ≡ Accepted n → j ≡ Refused r l → ⊥
+not-both p q = let z : _≡_ {A = ℕ} 0 1 = cc in omega arith
+
+-- a message that is accepted
+module _ (f : List ℕ) (k n : ℕ) (e : judgeOf f k ≡ Accepted n) where
+  pub accepted-short : length f ≤ 65535
+  accepted-short = go (ltb 65535 (length f)) refl
+    where
+      go : (t : Bool) → ltb 65535 (length f) ≡ t → length f ≤ 65535
+      go true q = absurd (not-both e (judge-long f k (ltb-true _ _ q)))
+      go false q = ltb-false _ _ q
+
+  pub not-missing : FoundIs Missing k f → ⊥
+  not-missing q = not-both e (judge-missing f k accepted-short q)
+
+-- a message's rows are those from the place where it is found
+pub found-rows : (f : List ℕ) (k p : ℕ) (form : Form) → FoundIs (Place p form) k f → rowsOf f k ≡ rowsFrom (freshState form) 0 1 (left f p true)
+unfolding FoundIs messageOf rowsLines
+found-rows f k p form q =
+    let x = endsOf p (drop p f) in
+    rw (q .0, up-more f p x (q .1) refl true refl) (rw (text-left p (drop p f) x refl, q .2))

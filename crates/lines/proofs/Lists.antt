@@ -250,6 +250,7 @@ pub record Placed (f : List ℕ) (from : ℕ) (e : Ends) : Type 0 where
   pub start : from ≤ e .end
   pub end : e .end ≤ length f
   pub on : from < e .next
+  pub ends : e .end ≤ e .next
   pub next : e .next ≤ length f
 
 pub placed : (f : List ℕ) (from : ℕ) (e : Ends) → from < length f → e ≡ endsOf from (drop from f) → Placed f from e
@@ -261,4 +262,4 @@ placed f from e h q =
     let n = end-le (drop (textLen s) s) in
     let m = length-drop (textLen s) s in
     let k : 0 < lineLen s = len-some s (omega arith) in
-    rw q (record { start = omega arith; end = omega arith; on = omega arith; next = omega arith })
+    rw q (record { start = omega arith; end = omega arith; on = omega arith; ends = omega arith; next = omega arith })

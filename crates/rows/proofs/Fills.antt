@@ -2,45 +2,38 @@
 -- Assumes nothing.
 use mathlib.Core.Path.{_≡_, refl, sym, ap, _∙_}
 use mathlib.Core.List.{List, [], _∷_, _++_}
-use mathlib.Core.Bool.{Bool, true, false, not, _&&_}
+use mathlib.Core.Bool.{Bool, true, false}
 use Prim.Native.Nat.{ℕ, suc, _+_, _-_, _*_, _≤_, _<_}
 use native.Mathlib.Numerals.{add-one}
 use native.Mathlib.Omega.{arith}
 use lib.Dec.{eqb, ltb}
-use lib.ListN.{length, take, drop, set, getD, length-append, length-take, length-drop}
-use borrow.Author.Tests.{le-ltb, ltb-true, ltb-false}
+use lib.ListN.{length, take, drop, getD, length-append}
+use borrow.Author.Tests.{le-ltb, ltb-false}
 use lib.Seq.{sets, sets-eq, length-take-le, drop-cons, getD-take}
-use Rattle.lines.specs.Feed.{Line, endsOf}
+use Rattle.words.proofs.Laws.{sets-more}
+use Rattle.lines.specs.Feed.{Line}
 use Rattle.lines.specs.Text.{noSpan}
 use Rattle.lines.specs.declared.Span.{Span}
 use Rattle.grammar.specs.Order.{nextOf}
 use Rattle.grammar.specs.declared.Form.{Form}
 use Rattle.grammar.specs.declared.Form.the-variants.{Opm, Oem}
-use Rattle.step.specs.Step.{Inside, freshState, stepOf}
-use Rattle.step.specs.declared.Reason.{Reason}
+use Rattle.step.specs.Step.{freshState, stepOf}
 use Rattle.step.specs.declared.Reason.the-variants as Reasons
 use Rattle.step.specs.declared.State.{State}
 use Rattle.step.specs.declared.Step.{Step}
 use Rattle.step.specs.declared.Verdict.{Verdict}
 use Rattle.step.specs.declared.Verdict.the-variants.{Right, Wrong}
-use Rattle.step.proofs.Sound.{Good, offence, none, one, seven, step-good}
-use Rattle.judge.specs.Message.{isHeading, formOf, upTo, texts, endOf, judgeTexts, judgeLines, messageOf, judgeOf, FoundIs, groupOf, rowsAt, rowsFrom, rowsLines, rowsOf}
-use Rattle.judge.specs.declared.Found.the-variants.{Place, Missing}
+use Rattle.step.proofs.Sound.{Spans, spans}
+use Rattle.judge.specs.Message.{formOf, texts, endOf, judgeTexts, judgeLines, messageOf, judgeOf, FoundIs, groupOf, rowsAt, rowsFrom, rowsLines, rowsOf}
+use Rattle.judge.specs.declared.Found.the-variants.{Place}
 use Rattle.judge.specs.declared.Judged.{Judged}
 use Rattle.judge.specs.declared.Judged.the-variants.{Accepted, Refused}
 use Rattle.judge.specs.declared.Moved.{Moved}
 use Rattle.judge.specs.declared.Row.{Row}
-use Rattle.judge.proofs.Laws.{line-left, text-left, up-more, left, AtLine, judge-long, judge-missing, judge-found}
+use Rattle.judge.proofs.Laws.{left, AtLine, judge-found, not-both, accepted-short}
 use Rattle.rows.proofs.Tables.{table-length}
 use Rattle.rows.specs.Table.{rowBytes, tableBytes, putRow, putRows}
 use Rattle.rows.specs.Place.{roomFor, tableAfter, StepFits, Fillable}
-
--- ---- stores
-
--- what is stored from here on goes behind what was stored up to here
-sets-more : (a : List ℕ) (l : List ℕ) (i : ℕ) (b : List ℕ) → sets (sets l i a) (i + length a) b ≡ sets l i (a ++ b)
-sets-more [] l i b = ap (λ (j : ℕ). sets l j b) (omega arith)
-sets-more (x ∷ a) l i b = ap (λ (j : ℕ). sets (sets (set l i x) (suc i) a) j b) (omega arith) ∙ sets-more a (set l i x) (suc i) b
 
 -- ---- a line's rows
 
@@ -72,24 +65,7 @@ put-turn n c g line at i k ps t h j =
 
 -- ---- what a step answers
 
--- its spans lie in the line's text
-pub record Spans (s : List ℕ) (x : Step) : Type 0 where
-  pub few : x .count ≤ 7
-  pub size : length (x .spans) ≡ 7
-  pub inside : (i : ℕ) → i < x .count → Inside (getD (x .spans) i noSpan) s
-  pub code : x .code ≤ 45
-
-spans-good : {s : List ℕ} {x : Step} → Good s x → Spans s x
-spans-good (offence st r) = record { few = omega arith; size = refl; inside = λ i h. absurd (omega arith); code = omega arith }
-spans-good (none st) = record { few = omega arith; size = refl; inside = λ i h. absurd (omega arith); code = omega arith }
-spans-good (one st c p k h) =
-    record { few = omega arith; size = refl; inside = λ i j. let z : i ≡ 0 = omega arith in rw z h; code = k }
-spans-good (seven st ps h) = record { few = omega arith; size = h .size; inside = λ i j. h .inside i; code = omega arith }
-
-spans : (st : State) (s : List ℕ) → Spans s (stepOf st s)
-spans st s = spans-good (step-good s st)
-
--- so its rows fit, where the text stands in the feed and the table has room
+-- its rows fit, where the text stands in the feed and the table has room
 pub step-fits : (st : State) (s : List ℕ) (x : Step) (n at : ℕ) (t : List ℕ) → x ≡ stepOf st s → at + length s ≤ 65535 → 10 * (n + x .count) ≤ length t
     → StepFits x n at t
 step-fits st s x n at t e h r =
@@ -125,10 +101,6 @@ pub fill-end : (st : State) (g line n : ℕ) (t : List ℕ) (ls : List Line) →
 unfolding putRows rowsFrom
 fill-end st g line n t ls e = rw e
 
--- no message is both accepted and refused
-pub not-both : {j : Judged} {n l : ℕ} {r : Reason} → j ≡ Accepted n → j ≡ Refused r l → ⊥
-not-both p q = let z : _≡_ {A = ℕ} 0 1 = cc in omega arith
-
 -- a message that is accepted has as many rows as it was accepted with
 pub accepted : (ls : List Line) (st : State) (g line n total : ℕ) → judgeTexts st line n (texts ls) ≡ Accepted total
     → n + length (rowsFrom st g line ls) ≡ total
@@ -149,15 +121,6 @@ accepted (l ∷ ls) st g line n total =
     go (Wrong r) ih e = absurd (not-both e refl)
     go Right ih e = simp length-append (rw (row-count st (l .text) _ refl) (omega (arith, ih e)))
 
--- a message's lines start with the first of those left
-first-same : (first : Bool) (a b : Line) (xs ys : List Line) → upTo first (a ∷ xs) ≡ b ∷ ys → a ≡ b
-unfolding upTo
-first-same first a b xs ys = go (not first && isHeading (a .text))
-  where
-    go : (t : Bool) → elim t [ true ↦ [] | false ↦ a ∷ upTo false xs ] ≡ b ∷ ys → a ≡ b
-    go true e = cc
-    go false e = cc
-
 -- the walk is at a line
 module _ (f : List ℕ) (at : ℕ) (first : Bool) (st : State) (m : Moved) (w : AtLine f at first st m) where
   -- the line's rows put: what is left is put behind them
@@ -166,15 +129,6 @@ module _ (f : List ℕ) (at : ℕ) (first : Bool) (st : State) (m : Moved) (w : 
       ≡ putRows (n + x .count) (rowsFrom (x .state) h (line + 1) (left f (m .next) false)) (putRows n (rowsAt (x .code) h line at (take (x .count) (x .spans))) t)
   unfolding rowsFrom
   fill-turn g line n t = rw (w .more) (rw (← w .step, put-append, row-count st (w .text) (m .step) (w .step)))
-
-  -- its text stands in the feed
-  pub line-inside : at + length (w .text) ≤ length f
-  line-inside =
-      let e = endsOf at (drop at f) in
-      let h : at < length f = omega (arith, w .on, w .next) in
-      let p = first-same first _ _ _ _ (ap (upTo first) (sym (line-left f at e h refl)) ∙ w .more) in
-      let q : take (e .end - at) (drop at f) ≡ w .text = ap (λ (l : Line). l .text) p in
-      rw (← q, length-take, length-drop) (omega arith)
 
 -- a group goes up by at most one
 next-le : (t : Bool) (g : ℕ) → elim t [ true ↦ g + 1 | false ↦ g ] ≤ g + 1
@@ -194,31 +148,15 @@ rows-lines [] n e = absurd (not-both e refl)
 rows-lines (l ∷ ls) n e = omega (arith, accepted (l ∷ ls) (freshState (formOf (l .text))) 0 1 0 n e)
 
 module _ (f : List ℕ) (k n : ℕ) (e : judgeOf f k ≡ Accepted n) where
-  accepted-short : length f ≤ 65535
-  accepted-short = go (ltb 65535 (length f)) refl
-    where
-      go : (t : Bool) → ltb 65535 (length f) ≡ t → length f ≤ 65535
-      go true q = absurd (not-both e (judge-long f k (ltb-true _ _ q)))
-      go false q = ltb-false _ _ q
-
   -- it has as many rows as it was accepted with
   pub rows-count : length (rowsOf f k) ≡ n
   unfolding judgeOf
-  rows-count = rows-lines (messageOf k f) n (rw (le-ltb _ _ accepted-short, judgeOf) at e)
-
-  pub not-missing : FoundIs Missing k f → ⊥
-  not-missing q = not-both e (judge-missing f k accepted-short q)
+  rows-count = rows-lines (messageOf k f) n (rw (le-ltb _ _ (accepted-short f k n e), judgeOf) at e)
 
   -- it stands where it was found
   module _ (p : ℕ) (form : Form) (q : FoundIs (Place p form) k f) where
     pub found-fillable : (t : List ℕ) → 10 * n ≤ length t → Fillable f p form n t
-    found-fillable t h = record { limit = accepted-short; right = sym (judge-found f k accepted-short p form q) ∙ e; room = h }
-
-    pub found-rows : rowsOf f k ≡ rowsFrom (freshState form) 0 1 (left f p true)
-    unfolding FoundIs messageOf rowsLines
-    found-rows =
-        let x = endsOf p (drop p f) in
-        rw (q .0, up-more f p x (q .1) refl true refl) (rw (text-left p (drop p f) x refl, q .2))
+    found-fillable t h = record { limit = accepted-short f k n e; right = sym (judge-found f k (accepted-short f k n e) p form q) ∙ e; room = h }
 
 -- ---- a table filled
 

@@ -3,7 +3,7 @@
 use mathlib.Core.Path.{_≡_, refl}
 use mathlib.Core.List.{List, [], _∷_}
 use mathlib.Core.Bool.{Bool, true, false, _&&_, false≢true}
-use Prim.Native.Nat.{ℕ, _+_, _-_, _≤_}
+use Prim.Native.Nat.{ℕ, _+_, _≤_, _<_}
 use native.Mathlib.Omega.{arith}
 use lib.Dec.{eqb, ltb, leb}
 use borrow.Author.Tests.{leb-true}
@@ -44,12 +44,6 @@ pub data Good (s : List ℕ) : Step → Type 0 where
   none : (st : State) → Good s (noRow st)
   one : (st : State) (c : ℕ) (p : Span) → c ≤ 45 → Inside p s → Good s (oneRow st c p)
   seven : (st : State) (ps : List Span) → SevenInside ps s → Good s (sevenRows st ps)
-
-few-rows : {s : List ℕ} {x : Step} → Good s x → x .count ≤ 7
-few-rows (offence st r) = omega arith
-few-rows (none st) = omega arith
-few-rows (one st c p h k) = omega arith
-few-rows (seven st ps k) = omega arith
 
 -- ---- codes are small
 
@@ -218,6 +212,19 @@ module _ (s : List ℕ) where
         either (isLong s) (offence st _)
         (either (ltb (oddAt s) (length s)) (offence st _) (either (eqb (trimOf s .to) 0) (none st) (filled-good (trimOf s) (trim-inside s _ refl))))
 
--- a line has at most seven rows
-pub few : (st : State) (s : List ℕ) → stepOf st s .count ≤ 7
-few st s = few-rows (step-good s st)
+-- what its count, spans and code say, whichever form it has: the spans lie in the line's text
+pub record Spans (s : List ℕ) (x : Step) : Type 0 where
+  pub few : x .count ≤ 7
+  pub size : length (x .spans) ≡ 7
+  pub inside : (i : ℕ) → i < x .count → Inside (getD (x .spans) i noSpan) s
+  pub code : x .code ≤ 45
+
+spans-good : {s : List ℕ} {x : Step} → Good s x → Spans s x
+spans-good (offence st r) = record { few = omega arith; size = refl; inside = λ i h. absurd (omega arith); code = omega arith }
+spans-good (none st) = record { few = omega arith; size = refl; inside = λ i h. absurd (omega arith); code = omega arith }
+spans-good (one st c p k h) =
+    record { few = omega arith; size = refl; inside = λ i j. let z : i ≡ 0 = omega arith in rw z h; code = k }
+spans-good (seven st ps h) = record { few = omega arith; size = h .size; inside = λ i j. h .inside i; code = omega arith }
+
+pub spans : (st : State) (s : List ℕ) → Spans s (stepOf st s)
+spans st s = spans-good (step-good s st)

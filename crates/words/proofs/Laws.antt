@@ -1,15 +1,15 @@
 -- Laws of the definitions on words, one a case. Other crates' proofs cite them too.
 -- Assumes nothing.
-use mathlib.Core.Path.{_≡_, refl}
-use mathlib.Core.List.{List, [], _∷_}
+use mathlib.Core.Path.{_≡_, refl, ap, _∙_}
+use mathlib.Core.List.{List, [], _∷_, _++_}
 use mathlib.Core.Bool.{Bool, true, false, _&&_, false≢true}
 use Prim.Native.Nat.{ℕ, suc, _+_, _-_, _≤_, _<_, suc-le-suc}
 use native.Mathlib.Nat.{suc-ne-zero}
 use native.Mathlib.Numerals.{add-one}
 use native.Mathlib.Omega.{arith}
 use lib.Dec.{eqb}
-use lib.ListN.{length, getD, take, drop, length-drop, drop-of-length-le}
-use lib.Seq.{drop-cons, take-all}
+use lib.ListN.{length, getD, set, take, drop, length-drop, drop-of-length-le}
+use lib.Seq.{drop-cons, take-all, sets}
 use borrow.Author.Tests.{ne-eqb}
 use Rattle.words.specs.Words.{agrees, begins, run}
 
@@ -91,3 +91,10 @@ pub begins-past : (w s : List ℕ) (n : ℕ) → length s ≤ n → eqb (length 
 unfolding agrees
 begins-past [] s n h = refl
 begins-past (b ∷ w) s n h = rw (drop-of-length-le s h) (ne-eqb (suc (length w)) 0 (λ e. suc-ne-zero _ e))
+
+-- ---- stores
+
+-- what is stored from here on goes behind what was stored up to here
+pub sets-more : (a : List ℕ) (l : List ℕ) (i : ℕ) (b : List ℕ) → sets (sets l i a) (i + length a) b ≡ sets l i (a ++ b)
+sets-more [] l i b = ap (λ (j : ℕ). sets l j b) (omega arith)
+sets-more (x ∷ a) l i b = ap (λ (j : ℕ). sets (sets (set l i x) (suc i) a) j b) (omega arith) ∙ sets-more a (set l i x) (suc i) b

@@ -9,7 +9,7 @@ use lib.Dec.{eqb}
 use lib.ListN.{length}
 use borrow.Author.Needs.{needs}
 use borrow.Author.Tests.{ne-eqb}
-use Rattle.step.proofs.Sound.{few}
+use Rattle.step.proofs.Sound.{spans}
 use Rattle.step.specs.declared.Verdict.the-variants.{Right}
 use Rattle.judge.specs.Message.{texts, judgeTexts}
 use Rattle.judge.proofs.Laws.{left, walk-on, judged-end, judged-wrong, judged-right}
@@ -29,7 +29,7 @@ step-on : (c : tie.After-enum-told2 Inv-loop μ-loop) → let m = c .before .bef
 step-on c =
     let a = c .before .before in
     let w = walk-on _ _ _ _ _ (a .next-line .ensures) Right (c .enum-told2 .given .1) in
-    (w .on, w .next, rw (w .step) (few _ (w .text)))
+    (w .on, w .next, rw (w .step) (spans _ (w .text) .few))
 
 fresh-requires : tie.Need-fresh-requires Inv-loop μ-loop
 fresh-requires c κs = tt

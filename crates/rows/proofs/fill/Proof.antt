@@ -11,9 +11,9 @@ use borrow.Author.Tests.{ne-eqb}
 use Rattle.step.specs.declared.Verdict.the-variants.{Right}
 use Rattle.judge.specs.declared.Judged.the-variants.{Accepted}
 use Rattle.judge.specs.Message.{texts, judgeTexts, rowsFrom}
-use Rattle.judge.proofs.Laws.{left, AtLine, walk-on, walk-end, judged-wrong, judged-right}
+use Rattle.judge.proofs.Laws.{left, AtLine, walk-on, walk-end, judged-wrong, judged-right, not-both}
 use Rattle.rows.specs.Table.{putRows}
-use Rattle.rows.proofs.Fills.{not-both, accepted, step-fits, fill-end, fill-turn, line-inside, group-le}
+use Rattle.rows.proofs.Fills.{accepted, step-fits, fill-end, fill-turn, group-le}
 use Rattle.rows.proofs.fill.Statement.{statement}
 use Rattle.rows.proofs.fill.Tie as tie
 
@@ -89,7 +89,7 @@ put-rows-requires c κs =
     let w = at-line b in
     let l = b .before .before .before in
     let s = l .before .before .before .before in
-    step-fits _ (w .text) _ _ _ _ (w .step) (omega (arith, line-inside _ _ _ _ _ w, s .pre .limit)) (omega (arith, counts b, s .pre .room, l .loop .inv .5))
+    step-fits _ (w .text) _ _ _ _ (w .step) (omega (arith, w .fits, w .next, s .pre .limit)) (omega (arith, counts b, s .pre .room, l .loop .inv .5))
 
 add-n : tie.Need-add-n Inv-loop μ-loop
 add-n c = omega (arith, counts (c .before .before .before .before .before .before .before), c .before .before .before .before .before .before .before .before .before .before .before .before .before .before .good .1 .1 .1 .0)

@@ -6,7 +6,8 @@ use lib.ListN.{length}
 use Rattle.judge.specs.Message.{judgeOf}
 use Rattle.judge.specs.declared.Judged.the-variants.{Accepted}
 use Rattle.rows.specs.Place.{tableAfter}
-use Rattle.rows.proofs.Fills.{room-right, not-missing, found-fillable, found-rows, table-filled}
+use Rattle.judge.proofs.Laws.{not-missing, found-rows}
+use Rattle.rows.proofs.Fills.{room-right, found-fillable, table-filled}
 use borrow.Author.Needs.{needs}
 use Rattle.rows.proofs.fill_message.Statement.{statement}
 use Rattle.rows.proofs.fill_message.Tie as tie
@@ -49,7 +50,7 @@ returns-2 c =
     let b = c .before .before .before .before .before .before .before in
     let a = b .before .before in
     let r = right a in
-    let q = found-rows _ _ _ (r .0) _ _ (rw (c .before .before .before .before .before .at .given .1) at (b .find-message .ensures .1)) in
+    let q = found-rows _ _ _ _ (rw (c .before .before .before .before .before .at .given .1) at (b .find-message .ensures .1)) in
     rw (a .answer .given .1) (c .before .before .fill .ensures ∙ table-filled _ _ _ _ _ (r .0) (r .1) q)
 
 returns-3 : tie.Need-returns-3
