@@ -11,5 +11,6 @@ $RUN build/readme examples/figure-3-1.opm >build/readme.out
 diff - build/readme.out <<'SAYS'
 row 0: keyword code 1, value 1.0
 the ticket is gone
+message 1 in plain form has 843 bytes
 SAYS
 echo "the example in README.md says what it should"

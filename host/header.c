@@ -4,6 +4,8 @@
 #include <stdio.h>
 #include <string.h>
 
+enum { BUFFER = 1000, BEFORE = 0xa5 }; /* a buffer's length, and what each byte of it is before */
+
 static int failures = 0;
 
 static void same(const char *what, unsigned long got, unsigned long want) {
@@ -13,7 +15,7 @@ static void same(const char *what, unsigned long got, unsigned long want) {
     }
 }
 
-int main(void) {
+static void check_judging(void) {
     const char *text = "noise\nCCSDS_OPM_VERS = 1.0\nCREATION_DATE = 2000-13-01T00:00:00\n";
     const uint8_t *feed = (const uint8_t *)text;
     size_t length = strlen(text);
@@ -31,6 +33,50 @@ int main(void) {
     same("reason for a message of an empty feed", odm_judge(NULL, 0, 1).reason, ODM_NO_MESSAGE);
     same("size of odm_counted", sizeof counted, 8);
     same("size of odm_judged", sizeof judged, 12);
+}
+
+/* Two messages, one right and one wrong, and the right one's plain form. */
+static const char two[] = "noise\n  CCSDS_OEM_VERS = 1.0\r\nCREATION_DATE = 2000-01-01T00:00:00\nCOMMENT\n\n COMMENT  a = b \nORIGINATOR = A\nMETA_START\n"
+                          "OBJECT_NAME = B C\nOBJECT_ID = C\nCENTER_NAME = D\nREF_FRAME = E\nTIME_SYSTEM = UTC\nSTART_TIME = 2000-001T00:00:00\n"
+                          "STOP_TIME = 2000-001T00:00:00\nMETA_STOP\n 2000-01-01T00:00:00  1 2 3 4 5 6 \n"
+                          "CCSDS_OPM_VERS = 1.0\nCREATION_DATE = 2000-13-01T00:00:00\n";
+static const char plain[] = "CCSDS_OEM_VERS=1.0\nCREATION_DATE=2000-01-01T00:00:00\nCOMMENT\nCOMMENT a = b\nORIGINATOR=A\nMETA_START\n"
+                            "OBJECT_NAME=B C\nOBJECT_ID=C\nCENTER_NAME=D\nREF_FRAME=E\nTIME_SYSTEM=UTC\nSTART_TIME=2000-001T00:00:00\n"
+                            "STOP_TIME=2000-001T00:00:00\nMETA_STOP\n2000-01-01T00:00:00 1 2 3 4 5 6";
+
+/* Writes a message into the first `room` bytes of a buffer. The buffer then begins with the text, and all its other bytes are as they were. */
+static void same_written(size_t message, size_t room, uint32_t reason, uint32_t line, const char *text) {
+    uint8_t buffer[BUFFER];
+    size_t length = strlen(text), kept = length;
+    memset(buffer, BEFORE, sizeof buffer);
+    odm_written written = odm_write((const uint8_t *)two, strlen(two), message, buffer, room);
+    while (kept < sizeof buffer && buffer[kept] == BEFORE) kept++;
+
+    same("reason of the writing", written.reason, reason);
+    same("line of the writing", written.line, line);
+    same("length of the writing", written.length, length);
+    same("whether the text written is another", memcmp(buffer, text, length) != 0, 0);
+    same("bytes written or kept", kept, sizeof buffer);
+}
+
+static void check_writing(void) {
+    same_written(1, BUFFER, ODM_OK, 0, plain);
+    same_written(1, strlen(plain), ODM_OK, 0, plain);
+    same_written(1, strlen(plain) - 1, ODM_NO_ROOM, 0, "");
+    same_written(1, 0, ODM_NO_ROOM, 0, "");
+    same_written(2, BUFFER, ODM_VALUE, 2, "");
+    same_written(2, 0, ODM_VALUE, 2, "");
+    same_written(3, BUFFER, ODM_NO_MESSAGE, 0, "");
+    same("reason for writing from an empty feed", odm_write(NULL, 0, 1, NULL, 0).reason, ODM_NO_MESSAGE);
+    same("size of odm_written", sizeof(odm_written), 12);
+    same("place of its reason", offsetof(odm_written, reason), 0);
+    same("place of its line", offsetof(odm_written, line), 4);
+    same("place of its length", offsetof(odm_written, length), 8);
+}
+
+int main(void) {
+    check_judging();
+    check_writing();
     if (failures > 0) return 1;
     puts("the header's names answer as they should");
     return 0;

@@ -3,7 +3,7 @@
  * A feed is bytes: at most 65,535, holding CCSDS OPM and OEM messages in keyword notation. Messages are numbered from 1, each from its
  * heading line to the next heading line or the end of the feed. Any bytes, any message number get an answer.
  *
- * No function keeps state, allocates, prints or needs to be set up. A null pointer with length 0 is an empty feed. Every function may be
+ * No function keeps state, allocates, prints or needs to be set up. A null pointer with length 0 is an empty feed, table or buffer. Every function may be
  * called from any thread.
  */
 #ifndef ODM_H
@@ -30,7 +30,7 @@ enum {
     ODM_UNIT = 9,        /* what follows the number is not its unit */
     ODM_TIME_ORDER = 10, /* a time is before one that it must not precede, or out of its segment's span */
     ODM_SHORT = 11,      /* no line offends, but something is missing at the end */
-    ODM_NO_ROOM = 12,    /* the message is right, and the table too short for its rows */
+    ODM_NO_ROOM = 12,    /* the message is right, and the table too short for its rows, or the buffer for its text */
     ODM_SPENT = 13,      /* the load number is at its top */
     ODM_GONE = 14,       /* the ticket's load number is not the desk's */
     ODM_NO_ROW = 15,     /* the row number is not below the desk's count */
@@ -84,6 +84,21 @@ typedef struct {
 
 odm_row odm_read(uint32_t load, uint32_t count, uint32_t ticket_load, uint32_t ticket_row, const uint8_t *feed, size_t feed_len, const uint8_t *table,
                  size_t table_len);
+
+/* A message written out in one plain form, with nothing loaded: KEYWORD=value, META_START and META_STOP, COMMENT with one blank and the text or COMMENT
+ * alone, a data line's seven values parted by one blank; an LF between lines and none after the last, no units, no blank lines. Loaded again it gives the
+ * same codes, groups and values, and written again the same bytes. It is never longer than the message, so a buffer as long as the feed always has room.
+ *
+ * On a refusal every byte of the buffer is as it was; else those past the length are.
+ */
+typedef struct {
+    uint32_t reason; /* ODM_OK, 1 to 11, or ODM_NO_ROOM: the message is right, and the buffer too short for it */
+    uint32_t line;   /* for 3 to 11 the line within the message; else 0 */
+    uint32_t length; /* how many bytes were written; 0 on a refusal */
+} odm_written;
+
+/* buffer_len is in bytes. */
+odm_written odm_write(const uint8_t *feed, size_t feed_len, size_t message, uint8_t *buffer, size_t buffer_len);
 
 #ifdef __cplusplus
 }

@@ -14,4 +14,6 @@ one-answer = (
   (λ d f k t. of-equation _),
   (λ d k f t. of-equation _),
   (λ d k f t. of-equation _),
+  (λ f k b. of-equation _),
+  (λ f k b. of-equation _),
 )

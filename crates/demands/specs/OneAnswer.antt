@@ -1,6 +1,6 @@
 -- "Any bytes, any ticket, any message number get an answer, and no caller has to check first.": that there is an answer is what the proof of each entry
 -- point says, and none asks anything by a `requires`. Here: its promise leaves one, so what two runs on the same input hand back, and leave in the
--- table, is the same.
+-- table or the buffer, is the same.
 -- Assumes nothing.
 use Prim.Native.Nat.{ℕ}
 use mathlib.Core.Path.{_≡_}
@@ -14,6 +14,9 @@ use Rattle.desk.specs.declared.Desk.{Desk}
 use Rattle.desk.specs.declared.Ticket.{Ticket}
 use Rattle.desk.specs.declared.Loaded.{Loaded}
 use Rattle.rows.specs.declared.Heard.{Heard}
+use Rattle.write.specs.Plain.{plainOf}
+use Rattle.write.specs.Written.{writtenOf, bufferAfter}
+use Rattle.write.specs.declared.Written.{Written}
 
 -- two answers that meet a promise are the same
 abbrev pub One : {A : Type 0} → (A → Type 0) → Type 0
@@ -27,3 +30,5 @@ OneAnswer =
     × ((d : Desk) (f : List ℕ) (k : ℕ) (t : List ℕ) → One {A = List ℕ} (λ u. u ≡ loadTable d f k t))
     × ((d : Desk) (k : Ticket) (f t : List ℕ) → One {A = Heard} (λ r. r ≡ readOf d k f t))
     × ((d : Desk) (k : Ticket) (f t : List ℕ) → One {A = List ℕ} (λ v. v ≡ partHeard (readOf d k f t) f))
+    × ((f : List ℕ) (k : ℕ) (b : List ℕ) → One {A = Written} (λ r. r ≡ writtenOf f k (length b)))
+    × ((f : List ℕ) (k : ℕ) (b : List ℕ) → One {A = List ℕ} (λ c. c ≡ bufferAfter (writtenOf f k (length b)) (plainOf f k) b))

@@ -12,10 +12,13 @@ use Rattle.desk.specs.declared.Ticket.{Ticket}
 use Rattle.desk.specs.declared.Loaded.{Loaded}
 use Rattle.rows.specs.declared.Heard.{Heard}
 use Rattle.rows.specs.declared.Heard.the-variants.{Spoken, Silent}
+use Rattle.write.specs.declared.Written.{Written}
+use Rattle.write.specs.declared.Written.the-variants as Writing
 use Rattle.odm.specs.declared.OdmCounted.{OdmCounted}
 use Rattle.odm.specs.declared.OdmPlaced.{OdmPlaced}
 use Rattle.odm.specs.declared.OdmRow.{OdmRow}
 use Rattle.odm.specs.declared.OdmJudged.{OdmJudged}
+use Rattle.odm.specs.declared.OdmWritten.{OdmWritten}
 
 abbrev pub countedNos : Counted → OdmCounted
 countedNos (Headings n) = record { reason = 0; count = n }
@@ -42,3 +45,7 @@ placedNos x =
 abbrev pub rowNos : Heard → OdmRow
 rowNos (Spoken r) = record { reason = 0; code = r .code; group = r .group; line = r .line; start = r .start; length = r .length }
 rowNos (Silent r) = record { reason = reasonNo r; code = 0; group = 0; line = 0; start = 0; length = 0 }
+
+abbrev pub writtenNos : Written → OdmWritten
+writtenNos (Writing.Whole n) = record { reason = 0; line = 0; length = n }
+writtenNos (Writing.Refused r l) = record { reason = reasonNo r; line = l; length = 0 }

@@ -7,11 +7,14 @@ use judge::Counted;
 use judge::Judged;
 use rows::Heard;
 use step::reason_number;
+use write::Written;
 ghost use mathlib.Core.Path.{_≡_};
 ghost use Rattle.judge.specs.Message.{countOf, judgeOf};
 ghost use lib.ListN.{length};
 ghost use Rattle.desk.specs.Loads.{loadOf, loadTable, readOf};
-ghost use Rattle.odm.specs.Face.{countedNos, judgedNos, deskNos, ticketNos, placedNos, rowNos};
+ghost use Rattle.write.specs.Plain.{plainOf};
+ghost use Rattle.write.specs.Written.{writtenOf, bufferAfter};
+ghost use Rattle.odm.specs.Face.{countedNos, judgedNos, deskNos, ticketNos, placedNos, rowNos, writtenNos};
 
 #[repr(C)]
 pub struct OdmCounted {
@@ -41,6 +44,13 @@ pub struct OdmRow {
     pub group: u32,
     pub line: u32,
     pub start: u32,
+    pub length: u32,
+}
+
+#[repr(C)]
+pub struct OdmWritten {
+    pub reason: u32,
+    pub line: u32,
     pub length: u32,
 }
 
@@ -148,6 +158,26 @@ pub extern "C" fn odm_read(
             group: 0,
             line: 0,
             start: 0,
+            length: 0,
+        },
+    }
+}
+
+// A message judged and, where it is right and the buffer has room, written there in plain form.
+#[no_mangle]
+pub extern "C" fn odm_write(feed: &[u8], message: usize, buffer: &mut [u8]) -> OdmWritten
+    ensures answer { λ r. ⌜ r ≡ writtenNos (writtenOf (now (feed .entry)) message (length (now (buffer .entry)))) ⌝ }
+    ensures buffer { λ _. ⌜ now (buffer .exit) ≡ bufferAfter (writtenOf (now (feed .entry)) message (length (now (buffer .entry)))) (plainOf (now (feed .entry)) message) (now (buffer .entry)) ⌝ }
+{
+    match write::write(feed, message, buffer) {
+        Written::Whole(length) => OdmWritten {
+            reason: 0,
+            line: 0,
+            length,
+        },
+        Written::Refused(reason, line) => OdmWritten {
+            reason: reason_number(reason),
+            line,
             length: 0,
         },
     }
