@@ -1,0 +1,9 @@
+pub mod Bytes
+pub mod Joined
+pub mod Spaced
+pub mod Trimmed
+pub mod PlainLine
+pub mod PlainData
+pub mod PlainTexts
+pub mod Writing
+pub mod Tidied
