@@ -11,6 +11,9 @@
  * Read:   u32 kind (3), u32 load and u32 count of the desk, a feed and a table as blocks, u32 how many tickets, each of them
  *         u32 load and u32 row.
  * Answer: for each ticket u32 reason, u32 code, u32 group, u32 line, u32 start, u32 length, then every byte of the table.
+ *
+ * Write:  u32 kind (4), a feed as a block, u64 message number, a buffer as a block.
+ * Answer: u32 reason, u32 line, u32 length, then every byte of the buffer.
  */
 #define _DEFAULT_SOURCE
 #include <stddef.h>
@@ -23,7 +26,7 @@
 
 #include "odm.h"
 
-enum { JUDGE = 1, PLACE = 2, READ = 3, BUFFER = 1 << 16 };
+enum { JUDGE = 1, PLACE = 2, READ = 3, WRITE = 4, BUFFER = 1 << 16 };
 
 static uint8_t in[BUFFER], out[BUFFER];
 static size_t in_at, in_end, out_end;
@@ -95,7 +98,7 @@ static void put_number(uint32_t number) {
     put_bytes(raw, 4);
 }
 
-/* A feed or a table, lent to the product as the comparer sent it. */
+/* A feed, a table or a buffer, lent to the product as the comparer sent it. */
 typedef struct {
     uint8_t *bytes;
     size_t length;
@@ -108,23 +111,23 @@ enum { FENCED = 1 << 22 };
 static uint8_t *fence(void) {
     size_t page = (size_t)sysconf(_SC_PAGESIZE);
     uint8_t *region = mmap(NULL, FENCED + page, PROT_READ | PROT_WRITE, MAP_PRIVATE | MAP_ANONYMOUS, -1, 0);
-    if (region == MAP_FAILED) refuse("no memory for a feed or a table");
+    if (region == MAP_FAILED) refuse("no memory for a feed, a table or a buffer");
     if (mprotect(region + FENCED, page, PROT_NONE) != 0) refuse("a page could not be fenced");
     return region + FENCED;
 }
 
-/* A feed or a table against its own fence; a null pointer where it is empty. */
+/* A feed, a table or a buffer against its own fence; a null pointer where it is empty. */
 static block take_block(uint8_t **end) {
     block taken = {NULL, take_u32()};
     if (taken.length == 0) return taken;
-    if (taken.length > FENCED) refuse("a feed or a table is too long for this host");
+    if (taken.length > FENCED) refuse("a feed, a table or a buffer is too long for this host");
     if (*end == NULL) *end = fence();
     taken.bytes = *end - taken.length;
     take(taken.bytes, taken.length);
     return taken;
 }
 
-static uint8_t *feed_end, *table_end;
+static uint8_t *feed_end, *table_end, *buffer_end;
 
 static void answer_judge(void) {
     block feed = take_block(&feed_end);
@@ -173,6 +176,17 @@ static void answer_read(void) {
     put_bytes(table.bytes, table.length);
 }
 
+static void answer_write(void) {
+    block feed = take_block(&feed_end);
+    size_t message = (size_t)take_number(8);
+    block buffer = take_block(&buffer_end);
+    odm_written written = odm_write(feed.bytes, feed.length, message, buffer.bytes, buffer.length);
+    put_number(written.reason);
+    put_number(written.line);
+    put_number(written.length);
+    put_bytes(buffer.bytes, buffer.length);
+}
+
 int main(void) {
     _Static_assert(sizeof(size_t) == 8, "message numbers are passed as 64 bits");
     while (in_at < in_end || fill()) {
@@ -183,6 +197,8 @@ int main(void) {
             answer_place();
         } else if (kind == READ) {
             answer_read();
+        } else if (kind == WRITE) {
+            answer_write();
         } else {
             refuse("a request of an unknown kind");
         }

@@ -1,9 +1,10 @@
 //! Asks the product's C face, which runs as a child process, for its answers.
 //!
-//! There is a kind of request for each thing that is asked: judging, placing and reading. Feeds and tables go over whole, and so
-//! does the table on its way back. `face.c` says byte by byte what a request and its answer are.
+//! There is a kind of request for each thing that is asked: judging, placing, reading and writing. Feeds, tables and buffers go over
+//! whole, and so do the table and the buffer on their way back. `face.c` says byte by byte what a request and its answer are.
 
 use crate::desk::{Desk, Load, Reading};
+use crate::send::{Sending, Sent};
 use std::io::{BufReader, Read, Write};
 use std::process::{Child, ChildStdin, ChildStdout, Command, Stdio};
 use std::sync::mpsc::{sync_channel, SyncSender};
@@ -13,6 +14,7 @@ use std::thread::JoinHandle;
 const JUDGE: u32 = 1;
 const PLACE: u32 = 2;
 const READ: u32 = 3;
+const WRITE: u32 = 4;
 
 /// What the face says of one message: reason, line and rows, as the C struct has them.
 #[derive(Clone, Copy, Debug, PartialEq, Eq)]
@@ -95,6 +97,12 @@ impl Face {
     pub fn next_read(&mut self, reading: &Reading) -> Result<ToldRows, String> {
         let rows = reading.tickets.iter().map(|_| self.numbers()).collect::<Result<_, _>>()?;
         Ok(ToldRows { rows, table: self.bytes(reading.table.len())? })
+    }
+
+    /// The next answer, for a request to write.
+    pub fn next_sent(&mut self, sending: &Sending) -> Result<Sent, String> {
+        let [reason, line, length] = self.numbers()?;
+        Ok(Sent { reason, line, length, buffer: self.bytes(sending.buffer.len())? })
     }
 
     fn numbers<const N: usize>(&mut self) -> Result<[u32; N], String> {
@@ -188,6 +196,14 @@ pub fn add_read(batch: &mut Vec<u8>, reading: &Reading) {
     }
 }
 
+/// Adds a request to write a message to a batch.
+pub fn add_write(batch: &mut Vec<u8>, sending: &Sending) {
+    add_number(batch, WRITE);
+    add_block(batch, &sending.feed);
+    batch.extend_from_slice(&sending.message.to_le_bytes());
+    add_block(batch, &sending.buffer);
+}
+
 fn add_number(batch: &mut Vec<u8>, number: u32) {
     batch.extend_from_slice(&number.to_le_bytes());
 }
@@ -235,6 +251,15 @@ mod tests {
         add_read(&mut batch, &Reading { desk: Desk { load: 4, count: 5 }, feed: b"a"[..].into(), table: Vec::new(), tickets });
         let blocks = [1, 0, 0, 0, b'a', 0, 0, 0, 0];
         assert_eq!(batch, [&[3, 0, 0, 0, 4, 0, 0, 0, 5, 0, 0, 0][..], &blocks, &[1, 0, 0, 0, 2, 1, 0, 0, 3, 0, 0, 0]].concat());
+    }
+
+    #[test]
+    fn a_request_to_write_is_written_low_byte_first() {
+        let mut batch = Vec::new();
+        add_write(&mut batch, &Sending { feed: b"ab"[..].into(), message: 0x0607, buffer: vec![9, 8] });
+        let feed = [2, 0, 0, 0, b'a', b'b'];
+        let message = [7, 6, 0, 0, 0, 0, 0, 0];
+        assert_eq!(batch, [&[4, 0, 0, 0][..], &feed, &message, &[2, 0, 0, 0, 9, 8]].concat());
     }
 
     #[test]

@@ -1,4 +1,4 @@
-//! The second program: a judge and a desk written from document 01 alone, and what the comparer needs to run them beside the product.
+//! The second program: a judge, a desk and a writer made from documents 01 and 02 alone, and what the comparer needs to run them beside the product.
 
 pub mod cases;
 pub mod clock;
@@ -8,4 +8,6 @@ pub mod face;
 pub mod harm;
 pub mod judge;
 pub mod make;
+pub mod send;
 pub mod session;
+pub mod writings;

@@ -524,10 +524,31 @@ fn write_message(writer: &mut Writer, lines: &[Line], ending: Ending, open_end: 
     rows
 }
 
+/// What must go out for a message of these lines, by their parts alone; bytes that are no part's have no place in a sound message.
+pub fn sent(lines: &[Line]) -> Vec<u8> {
+    let mut out: Vec<u8> = Vec::new();
+    for line in lines {
+        let text = match &line.part {
+            Part::Assign { word, value, .. } => format!("{word}={value}"),
+            Part::Comment(text) if text.is_empty() => "COMMENT".to_string(),
+            Part::Comment(text) => format!("COMMENT {text}"),
+            Part::Mark(word) => word.clone(),
+            Part::Data(fields) => fields.join(" "),
+            Part::Blank | Part::Raw(_) => continue,
+        };
+        if !out.is_empty() {
+            out.push(b'\n');
+        }
+        out.extend_from_slice(text.as_bytes());
+    }
+    out
+}
+
 #[cfg(test)]
 mod tests {
     use super::*;
     use crate::judge::{judge, Answer};
+    use crate::send::outgoing;
 
     #[test]
     fn sound_feeds_are_accepted_with_the_rows_foretold() {
@@ -537,6 +558,19 @@ mod tests {
             let written = write(&draft, &mut dice);
             for (at, rows) in written.rows.iter().enumerate() {
                 assert_eq!(judge(&written.feed, at as u64 + 1), Answer::Accepted(rows.clone()), "turn {turn}");
+            }
+        }
+    }
+
+    #[test]
+    fn sound_messages_go_out_as_foretold() {
+        let seed = 41;
+        for turn in 0..300 {
+            let mut dice = Dice::new(seed, turn);
+            let draft = draft(&mut dice);
+            let feed = write(&draft, &mut dice).feed;
+            for (message, lines) in (1..).zip(&draft.messages) {
+                assert_eq!(outgoing(&feed, message), Ok(sent(lines)), "seed {seed}, turn {turn}");
             }
         }
     }

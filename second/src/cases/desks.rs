@@ -202,7 +202,7 @@ fn load_numbers(book: &mut DeskCases) {
 }
 
 /// Wrong messages, each with document 01's number and the line.
-fn wrong() -> [(Reason, u32, Vec<u8>); 10] {
+pub(super) fn wrong() -> [(Reason, u32, Vec<u8>); 10] {
     [
         (Long, 5, oem().put(5, format!("{:255}", "OBJECT_NAME=B")).into()),
         (Byte, 5, oem().put(5, "OBJECT_NAME=\t").into()),

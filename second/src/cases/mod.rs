@@ -4,11 +4,13 @@ mod desks;
 mod feeds;
 mod lines;
 mod orders;
+mod sending;
 mod sixty;
 mod values;
 
 use crate::judge::{Reason, Row};
 pub use desks::{desks, DeskCases, LoadCase, ReadCase};
+pub use sending::{sendings, SendCase};
 
 /// The answer that a case must get.
 #[derive(Clone, Debug)]
@@ -231,6 +233,7 @@ mod tests {
     use super::*;
     use crate::desk::{place, read};
     use crate::judge::{Answer, Feed};
+    use crate::send::send;
 
     fn all_differ(mut names: Vec<String>, least: usize) {
         let count = names.len();
@@ -245,6 +248,12 @@ mod tests {
         let DeskCases { loads, reads } = desks();
         all_differ(loads.into_iter().map(|case| case.name).collect(), 120);
         all_differ(reads.into_iter().map(|case| case.name).collect(), 120);
+        all_differ(sendings().into_iter().map(|case| case.name).collect(), 1_000);
+    }
+
+    #[test]
+    fn the_writer_gives_the_answers_written_by_hand() {
+        sendings().iter().for_each(|case| assert!(send(&case.sending) == case.want, "{}", case.name));
     }
 
     #[test]

@@ -13,6 +13,7 @@ mod words;
 pub use cut::{is_heading, Cut};
 pub use rows::Row;
 pub use shape::is_leap;
+pub use words::{coded, Wanted};
 
 /// A feed has at most this many bytes.
 pub const FEED_LIMIT: usize = 65_535;

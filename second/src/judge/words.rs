@@ -97,8 +97,8 @@ pub fn named(name: &[u8]) -> Option<&'static Word> {
 }
 
 /// The keyword with this code.
-pub fn coded(code: u8) -> &'static Word {
-    &WORDS[usize::from(code) - 1]
+pub fn coded(code: impl Into<usize>) -> &'static Word {
+    &WORDS[code.into() - 1]
 }
 
 #[cfg(test)]

@@ -1,8 +1,9 @@
 //! Holds the second desk against what is known, and the face against the second desk.
 
 use crate::tally::Tally;
-use second::desk::{place, read, reason_name, Desk, Heard, Load, Placed, Reading, Ticket, FINE};
-use second::face::Face;
+use crate::words::{known_by, other_bytes, reason_words};
+use second::desk::{place, read, Desk, Heard, Load, Placed, Reading, Ticket, FINE};
+use second::face::{Face, ToldLoad};
 use second::judge::Row;
 
 /// Facts about a load that differs.
@@ -20,9 +21,7 @@ pub fn compare_load(
     }
     let mut facts = other_placed(known_by(generated), known, "the second program", &placed);
     if let Some(face) = face {
-        let told = face.next_placed(load)?;
-        let [load, count, reason, line] = told.numbers;
-        let told = Placed { desk: Desk { load, count }, reason, line, table: told.table };
+        let told = next_placed(face, load)?;
         facts.extend(other_placed("the second program", &placed, "the product", &told));
     }
     if !facts.is_empty() {
@@ -31,34 +30,21 @@ pub fn compare_load(
     Ok(facts)
 }
 
-fn known_by(generated: bool) -> &'static str {
-    if generated {
-        "foretold"
-    } else {
-        "written by hand"
-    }
+/// What the face says of a load.
+pub fn next_placed(face: &mut Face, load: &Load) -> Result<Placed, String> {
+    let ToldLoad { numbers: [load, count, reason, line], table } = face.next_placed(load)?;
+    Ok(Placed { desk: Desk { load, count }, reason, line, table })
 }
 
-/// Facts about two answers to one load; the table's lengths are equal, since both had it lent.
-fn other_placed(one: &str, left: &Placed, other: &str, right: &Placed) -> Vec<String> {
+/// Facts about two answers to one load.
+pub fn other_placed(one: &str, left: &Placed, other: &str, right: &Placed) -> Vec<String> {
     let mut facts = Vec::new();
     if (left.desk, left.reason, left.line) != (right.desk, right.reason, right.line) {
         facts.push(format!("{one}: {}", placed_words(left)));
         facts.push(format!("{other}: {}", placed_words(right)));
     }
-    facts.extend(other_bytes(one, &left.table, other, &right.table));
+    facts.extend(other_bytes("table", one, &left.table, other, &right.table));
     facts
-}
-
-/// How many bytes of two tables differ, and the first of them.
-fn other_bytes(one: &str, left: &[u8], other: &str, right: &[u8]) -> Vec<String> {
-    let differ: Vec<usize> = (0..left.len()).filter(|at| left[*at] != right[*at]).collect();
-    let Some(at) = differ.first() else { return Vec::new() };
-    vec![
-        format!("bytes of the table that differ: {}, the first at {at}", differ.len()),
-        format!("{one}: byte {}", left[*at]),
-        format!("{other}: byte {}", right[*at]),
-    ]
 }
 
 /// Facts about tickets that differ.
@@ -78,7 +64,7 @@ pub fn compare_read(
     if let Some(face) = face {
         let told = face.next_read(reading)?;
         facts.extend(other_told(reading, &heard, &told.rows));
-        facts.extend(other_bytes("before reading", &reading.table, "after it", &told.table));
+        facts.extend(other_bytes("table", "before reading", &reading.table, "after it", &told.table));
     }
     if !facts.is_empty() {
         facts.insert(0, format!("tickets on a desk with {}", desk_words(reading.desk)));
@@ -130,12 +116,7 @@ fn ticket_words(ticket: Ticket) -> String {
     format!("ticket of load {} and row {}", ticket.load, ticket.row)
 }
 
-/// A reason by its name, or by its number if it has none.
-fn reason_words(reason: u32) -> String {
-    reason_name(reason).map_or(format!("reason {reason}"), str::to_string)
-}
-
-fn placed_words(placed: &Placed) -> String {
+pub fn placed_words(placed: &Placed) -> String {
     let after = desk_words(placed.desk);
     match (placed.reason, placed.line) {
         (FINE, 0) => format!("accepted, then {after}"),

@@ -1,13 +1,15 @@
-//! What is asked: fixed cases, generated feeds and sessions, each with what is known of the answer beforehand.
+//! What is asked: fixed cases, generated feeds, sessions and writings, each with what is known of the answer beforehand.
 
-use second::cases::{Case, DeskCases, Want};
+use second::cases::{Case, DeskCases, SendCase, Want};
 use second::desk::{Heard, Load, Placed, Reading};
 use second::dice::Dice;
-use second::face::{add_judge, add_place, add_read, Face};
+use second::face::{add_judge, add_place, add_read, add_write, Face};
 use second::harm::{fill, harm_bytes, harm_draft};
 use second::judge::{Feed, Reason, Row, FEED_LIMIT};
-use second::make::{draft, write, Written};
+use second::make::{draft, sent, write, Written};
+use second::send::Sent;
 use second::session::{session, Step};
+use second::writings::{writings, Again, Letter, Writing};
 use std::rc::Rc;
 
 /// So many in a hundred generated feeds begin a session on a desk.
@@ -20,11 +22,13 @@ pub struct Item {
     pub ask: Ask,
 }
 
-/// A call on the face, with what must be answered if that is known without judge or desk.
+/// A call on the face, or a few, with what must be answered if that is known without judge, desk or writer.
 pub enum Ask {
     Judge(Judging),
     Load(Load, Placed),
     Read(Reading, Vec<Option<Heard>>),
+    Write(Writing),
+    Again(Again),
 }
 
 /// Messages of a feed to be judged.
@@ -52,15 +56,19 @@ impl Item {
             Ask::Judge(judging) => &judging.feed,
             Ask::Load(load, _) => &load.feed,
             Ask::Read(reading, _) => &reading.feed,
+            Ask::Write(writing) => &writing.sending.feed,
+            Ask::Again(again) => &again.first.feed,
         }
     }
 
-    /// The table that goes with it, if one does.
-    pub fn table(&self) -> Option<&[u8]> {
+    /// What goes with the feed, if anything does, and what it is.
+    pub fn beside(&self) -> Option<(&'static str, &[u8])> {
         match &self.ask {
             Ask::Judge(_) => None,
-            Ask::Load(load, _) => Some(&load.table),
-            Ask::Read(reading, _) => Some(&reading.table),
+            Ask::Load(load, _) => Some(("table", &load.table)),
+            Ask::Read(reading, _) => Some(("table", &reading.table)),
+            Ask::Write(writing) => Some(("buffer", &writing.sending.buffer)),
+            Ask::Again(again) => Some(("output", &again.then.feed)),
         }
     }
 
@@ -69,6 +77,13 @@ impl Item {
             Ask::Judge(judging) => add_judge(batch, &judging.feed, &judging.messages),
             Ask::Load(load, _) => add_place(batch, load),
             Ask::Read(reading, _) => add_read(batch, reading),
+            Ask::Write(writing) => add_write(batch, &writing.sending),
+            Ask::Again(again) => {
+                add_place(batch, &again.first);
+                add_judge(batch, &again.then.feed, &[]);
+                add_place(batch, &again.then);
+                add_write(batch, &again.sending);
+            }
         }
     }
 
@@ -78,6 +93,13 @@ impl Item {
             Ask::Judge(judging) => face.next_judged(judging.messages.len()).is_ok(),
             Ask::Load(load, _) => face.next_placed(load).is_ok(),
             Ask::Read(reading, _) => face.next_read(reading).is_ok(),
+            Ask::Write(writing) => face.next_sent(&writing.sending).is_ok(),
+            Ask::Again(again) => {
+                face.next_placed(&again.first).is_ok()
+                    && face.next_judged(0).is_ok()
+                    && face.next_placed(&again.then).is_ok()
+                    && face.next_sent(&again.sending).is_ok()
+            }
         }
     }
 }
@@ -86,9 +108,26 @@ fn fixed(name: &str, ask: Ask) -> Item {
     Item { name: format!("fixed case: {name}"), generated: false, ask }
 }
 
-pub fn case_item(case: Case) -> Item {
+/// A case's message to be judged and written and, if it goes out, loaded and written again.
+pub fn case_items(case: Case) -> Vec<Item> {
     let Case { name, feed, headings, message, want } = case;
-    fixed(&name, Ask::Judge(Judging { feed: feed.into(), messages: vec![message], known: Known::Case { headings, want } }))
+    let feed: Rc<[u8]> = feed.into();
+    let letter = Rc::new(Letter::new(&feed, &Feed::new(&feed), message));
+    let buffer = vec![255; letter.outgoing.as_ref().map_or(50, |text| text.len() + 1)];
+    let refused = match want {
+        Want::Refused(reason, line) => Some(Sent { reason: reason.number(), line: line as u32, length: 0, buffer: buffer.clone() }),
+        Want::Accepted { .. } => None,
+    };
+    let again = letter.again(|size| vec![255; size]).map(|again| fixed(&format!("{name}, loaded again"), Ask::Again(again)));
+    let written = fixed(&format!("{name}, written"), Ask::Write(letter.into_buffer(buffer, refused)));
+    let judging = Judging { feed, messages: vec![message], known: Known::Case { headings, want } };
+    [fixed(&name, Ask::Judge(judging)), written].into_iter().chain(again).collect()
+}
+
+pub fn send_item(case: SendCase) -> Item {
+    let SendCase { name, sending, want } = case;
+    let letter = Rc::new(Letter::new(&sending.feed, &Feed::new(&sending.feed), sending.message));
+    fixed(&name, Ask::Write(letter.into_buffer(sending.buffer, Some(want))))
 }
 
 pub fn desk_items(cases: DeskCases) -> Vec<Item> {
@@ -97,29 +136,40 @@ pub fn desk_items(cases: DeskCases) -> Vec<Item> {
     loads.chain(reads).collect()
 }
 
-/// What one turn of a seed brings: a feed, and often a session that begins with it.
+/// What one turn of a seed brings: a feed, often a session that begins with it, and writings of its messages.
 pub fn generated_items(seed: u64, turn: usize) -> Vec<Item> {
     let mut dice = Dice::new(seed, turn as u64);
-    let (feed, known) = any_feed(&mut dice);
-    let feed: Rc<[u8]> = feed.into();
+    let Made { feed, known, texts } = any_feed(&mut dice);
     let messages = asked(&feed, &mut dice);
     let name = format!("generated feed {turn} of seed {seed}");
-    let mut feeds = vec![feed.clone()];
-    let judging = Ask::Judge(Judging { feed, messages, known });
-    let mut items = vec![Item { name: name.clone(), generated: true, ask: judging }];
+    let item = |more: String, ask| Item { name: format!("{name}{more}"), generated: true, ask };
+    let judging = Ask::Judge(Judging { feed: feed.clone(), messages: messages.clone(), known });
+    let mut items = vec![item(String::new(), judging)];
     if dice.percent(SESSIONS) {
-        feeds.extend((0..dice.below(3)).map(|_| Rc::from(any_feed(&mut dice).0)));
+        let mut feeds = vec![feed.clone()];
+        feeds.extend((0..dice.below(3)).map(|_| any_feed(&mut dice).feed));
         let asks = session(&feeds, &mut dice).into_iter().map(|step| match step {
             Step::Load(load, placed) => Ask::Load(load, placed),
             Step::Read(reading, known) => Ask::Read(reading, known),
         });
-        items.extend((1..).zip(asks).map(|(at, ask)| Item { name: format!("{name}, call {at} on a desk"), generated: true, ask }));
+        items.extend((1..).zip(asks).map(|(at, ask)| item(format!(", call {at} on a desk"), ask)));
     }
+    let (writings, agains) = writings(&feed, &messages, texts.as_deref(), &mut dice);
+    items.extend((1..).zip(writings).map(|(at, writing)| item(format!(", writing {at}"), Ask::Write(writing))));
+    items.extend((1..).zip(agains).map(|(at, again)| item(format!(", output {at} loaded again"), Ask::Again(again))));
     items
 }
 
+/// A feed, and what is foretold of it.
+struct Made {
+    feed: Rc<[u8]>,
+    known: Known,
+    /// What its messages go out as, if it is sound.
+    texts: Option<Vec<Vec<u8>>>,
+}
+
 /// A feed, sound or damaged, at times filled up to the limit or over it.
-fn any_feed(dice: &mut Dice) -> (Vec<u8>, Known) {
+fn any_feed(dice: &mut Dice) -> Made {
     let mut sketch = draft(dice);
     let sound = dice.percent(30);
     if !sound {
@@ -134,13 +184,14 @@ fn any_feed(dice: &mut Dice) -> (Vec<u8>, Known) {
         let mut feed = write(&sketch, dice).feed;
         // Line endings at the end bring it to its size, so its lines are nobody's foretelling.
         feed.resize(wanted, b'\n');
-        return (feed, Known::Nothing);
+        return Made { feed: feed.into(), known: Known::Nothing, texts: None };
     }
     let Written { mut feed, rows } = write(&sketch, dice);
     if !sound {
         (0..dice.pick(&[0, 0, 0, 1, 2])).for_each(|_| harm_bytes(&mut feed, dice));
     }
-    (feed, if sound { Known::Rows(rows) } else { Known::Nothing })
+    let texts = sound.then(|| sketch.messages.iter().map(|lines| sent(lines)).collect());
+    Made { feed: feed.into(), known: if sound { Known::Rows(rows) } else { Known::Nothing }, texts }
 }
 
 /// The message numbers to ask for: all that there are, and at times some that there are not.

@@ -1,12 +1,16 @@
-//! Runs the second judge and desk beside the product's C face, on fixed cases and on generated feeds, and names every difference.
+//! Runs the second judge, desk and writer beside the product's C face, on fixed cases and on generated feeds, and names every difference.
 
+mod again;
 mod desks;
 mod items;
 mod judging;
+mod outputs;
+mod sending;
 mod sixty;
 mod tally;
+mod words;
 
-use items::{case_item, desk_items, generated_items, Ask, Item};
+use items::{case_items, desk_items, generated_items, send_item, Ask, Item};
 use second::cases;
 use second::face::Face;
 use std::process::ExitCode;
@@ -15,7 +19,7 @@ use tally::{Tally, FLOOR_FEEDS};
 
 const HELP: &str = "\
 compare --self [--seed N] [--feeds N]
-    runs the second program alone: fixed cases against their answers, sound feeds and calls on a desk against what is foretold
+    runs the second program alone: fixed cases against their answers, sound feeds, calls on a desk and writings against what is foretold
 compare [--seed N] [--feeds N] --face COMMAND...
     runs it beside the product's C face; everything after --face is the command that starts the face";
 
@@ -79,15 +83,17 @@ fn number(arguments: &[String], at: &mut usize) -> Result<u64, String> {
 }
 
 fn run(options: &Options) -> Result<bool, String> {
-    let (fixed, desks) = (cases::all(), cases::desks());
+    let (fixed, desks, sendings) = (cases::all(), cases::desks(), cases::sendings());
     let feeds = fixed.len() + options.feeds;
     println!("seed {}", options.seed);
-    println!("{} fixed cases of judging, {} of loads, {} of tickets", fixed.len(), desks.loads.len(), desks.reads.len());
+    let of_desks = format!("{} of loads, {} of tickets", desks.loads.len(), desks.reads.len());
+    println!("{} fixed cases of judging, {of_desks}, {} of writings", fixed.len(), sendings.len());
     println!("{} generated feeds", options.feeds);
     let mut face = options.face.as_ref().map(|command| Face::start(command)).transpose()?;
     let mut tally = Tally::new();
     let generated = (0..options.feeds).flat_map(|turn| generated_items(options.seed, turn));
-    let items = fixed.into_iter().map(case_item).chain(desk_items(desks)).chain(generated);
+    let judged = fixed.into_iter().flat_map(case_items);
+    let items = judged.chain(desk_items(desks)).chain(sendings.into_iter().map(send_item)).chain(generated);
     let mut progress = Progress { last: Instant::now(), feeds };
     compare_all(items, options, face.as_mut(), &mut tally, &mut progress)?;
     // A run that has stopped early leaves answers unread, and says so by its differences.
@@ -169,6 +175,8 @@ fn compare(item: &Item, face: Option<&mut Face>, tally: &mut Tally) -> Result<()
         Ask::Judge(judging) => judging::compare_judged(judging, item.generated, face, tally),
         Ask::Load(load, known) => desks::compare_load(load, known, item.generated, face, tally),
         Ask::Read(reading, known) => desks::compare_read(reading, known, item.generated, face, tally),
+        Ask::Write(writing) => sending::compare_sent(writing, item.generated, face, tally),
+        Ask::Again(again) => again::compare_again(again, item.generated, face, tally),
     }?;
     if !facts.is_empty() {
         tally.differences += 1;

@@ -1,6 +1,7 @@
 //! What is counted of second 60: generated feeds with a message that was accepted with it, and those with one that was refused for it.
 //! It is looked for in the bytes, by its look alone, so that the judge's own reading of epochs is not asked.
 
+use crate::words::{counts_words, rare};
 use second::judge::{is_heading, judge, Answer, Feed, Kind, Place, Reason, Row};
 
 /// What a feed can be counted as, in the words of the report.
@@ -42,13 +43,11 @@ impl Sixties {
     }
 
     pub fn rare(&self, floor: usize) -> Vec<String> {
-        let few = self.named().filter(|(_, count)| *count < floor);
-        few.map(|(name, count)| format!("second 60: {name} came only {count} times, {floor} are wanted")).collect()
+        rare("second 60", self.named(), floor)
     }
 
     pub fn words(&self) -> String {
-        let words: Vec<String> = self.named().map(|(name, count)| format!("{name} {count}")).collect();
-        format!("generated feeds with second 60: {}", words.join(", "))
+        format!("generated feeds with second 60: {}", counts_words(self.named()))
     }
 }
 

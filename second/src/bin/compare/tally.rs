@@ -1,12 +1,14 @@
 //! What has been counted, what it says at the end, and what is kept of a difference.
 
 use crate::items::Item;
+use crate::outputs::Outputs;
 use crate::sixty::Sixties;
+use crate::words::{counts_words, rare};
 use second::desk::reason_name;
 use std::ops::RangeInclusive;
 use std::path::{Path, PathBuf};
 
-/// Each 20,000 generated feeds must bring every reason, and every case of second 60, this often.
+/// Each 20,000 generated feeds must bring every reason, every case of second 60 and everything that writings can show, this often.
 const FLOOR: usize = 100;
 pub const FLOOR_FEEDS: usize = 20_000;
 
@@ -33,17 +35,15 @@ impl Counts {
     }
 
     fn rare(&self, floor: usize) -> Vec<String> {
-        let few = self.named().filter(|(_, count)| *count < floor);
-        few.map(|(name, count)| format!("{}: {name} came only {count} times, {floor} are wanted", self.what)).collect()
+        rare(self.what, self.named(), floor)
     }
 
     fn words(&self) -> String {
-        let words: Vec<String> = self.named().map(|(name, count)| format!("{name} {count}")).collect();
-        format!("{}: {} {}, {}", self.what, self.good, self.counts[0], words.join(", "))
+        format!("{}: {} {}, {}", self.what, self.good, self.counts[0], counts_words(self.named()))
     }
 }
 
-/// What has been counted so far; the reasons and the second 60 are those of generated feeds alone.
+/// What has been counted so far; the reasons, the second 60 and the outputs are those of generated feeds alone.
 pub struct Tally {
     pub feeds: usize,
     pub answers: usize,
@@ -51,7 +51,9 @@ pub struct Tally {
     pub judged: Counts,
     pub loads: Counts,
     pub tickets: Counts,
+    pub writings: Counts,
     pub sixties: Sixties,
+    pub outputs: Outputs,
     save: PathBuf,
 }
 
@@ -64,7 +66,9 @@ impl Tally {
             judged: Counts::new("generated judgements", "accepted", 1..=11),
             loads: Counts::new("generated loads", "accepted", 1..=13),
             tickets: Counts::new("generated tickets", "answered", 14..=16),
+            writings: Counts::new("generated writings", "written", 1..=12),
             sixties: Sixties::default(),
+            outputs: Outputs::default(),
             save: save_directory(),
         }
     }
@@ -72,8 +76,9 @@ impl Tally {
     /// Says what was counted; true if there was no difference and everything came often enough.
     pub fn report(&self, generated: usize) -> bool {
         let floor = if generated < FLOOR_FEEDS { 0 } else { FLOOR * (generated / FLOOR_FEEDS) };
-        let kinds = [&self.judged, &self.loads, &self.tickets];
-        let rare: Vec<String> = kinds.iter().flat_map(|counts| counts.rare(floor)).chain(self.sixties.rare(floor)).collect();
+        let kinds = [&self.judged, &self.loads, &self.tickets, &self.writings];
+        let of_kinds = kinds.iter().flat_map(|counts| counts.rare(floor));
+        let rare: Vec<String> = of_kinds.chain(self.sixties.rare(floor)).chain(self.outputs.rare(floor)).collect();
         // A run that stopped early has not had the time to bring everything.
         let too_rare = self.differences == 0 && !rare.is_empty();
         if too_rare {
@@ -81,14 +86,15 @@ impl Tally {
         }
         kinds.iter().for_each(|counts| println!("{}", counts.words()));
         println!("{}", self.sixties.words());
+        println!("{}", self.outputs.words());
         println!("{} feeds, {} answers, {} differences", self.feeds, self.answers, self.differences);
         self.differences == 0 && !too_rare
     }
 
-    /// Keeps the feed of a difference, and the table if there is one, and says where.
+    /// Keeps the feed of a difference, and what goes with it, and says where.
     pub fn keep(&self, item: &Item) -> String {
         let words = self.keep_as("feed", item.feed());
-        item.table().map_or(words.clone(), |table| format!("{words}\n{}", self.keep_as("table", table)))
+        item.beside().map_or(words.clone(), |(what, bytes)| format!("{words}\n{}", self.keep_as(what, bytes)))
     }
 
     fn keep_as(&self, what: &str, bytes: &[u8]) -> String {
@@ -123,26 +129,48 @@ fn write_file(path: &Path, bytes: &[u8]) -> std::io::Result<()> {
 mod tests {
     use super::*;
 
-    /// A tally in which every reason came just often enough.
-    fn whole(sixties: [usize; 6]) -> Tally {
+    /// A tally in which everything came just often enough.
+    fn whole() -> Tally {
         let mut tally = Tally::new();
-        for counts in [&mut tally.judged, &mut tally.loads, &mut tally.tickets] {
+        for counts in [&mut tally.judged, &mut tally.loads, &mut tally.tickets, &mut tally.writings] {
             counts.reasons.clone().for_each(|reason| (0..FLOOR).for_each(|_| counts.add(reason)));
         }
-        tally.sixties = Sixties::of(sixties);
+        tally.sixties = Sixties::of([FLOOR; 6]);
+        tally.outputs = Outputs::of([FLOOR; 17]);
         tally
+    }
+
+    /// A run of the floor's feeds fails for what is spoilt; a shorter one has no floor.
+    fn fails(spoil: impl Fn(&mut Tally)) {
+        let mut tally = whole();
+        spoil(&mut tally);
+        assert!(!tally.report(FLOOR_FEEDS));
+        assert!(tally.report(FLOOR_FEEDS - 1));
+    }
+
+    /// The floor everywhere but in one place.
+    fn few<const N: usize>(at: usize) -> [usize; N] {
+        std::array::from_fn(|place| if place == at { FLOOR - 1 } else { FLOOR })
+    }
+
+    #[test]
+    fn a_run_that_has_everything_stands() {
+        assert!(whole().report(FLOOR_FEEDS));
+        assert!(!whole().report(2 * FLOOR_FEEDS));
     }
 
     #[test]
     fn a_run_that_lacks_a_case_of_second_60_fails() {
-        assert!(whole([FLOOR; 6]).report(FLOOR_FEEDS));
-        for at in 0..6 {
-            let mut few = [FLOOR; 6];
-            few[at] = FLOOR - 1;
-            assert!(!whole(few).report(FLOOR_FEEDS));
-            // A shorter run has no floor, and a longer one a higher floor.
-            assert!(whole(few).report(FLOOR_FEEDS - 1));
-        }
-        assert!(!whole([FLOOR; 6]).report(2 * FLOOR_FEEDS));
+        (0..6).for_each(|at| fails(|tally| tally.sixties = Sixties::of(few(at))));
+    }
+
+    #[test]
+    fn a_run_that_lacks_something_that_writings_show_fails() {
+        (0..17).for_each(|at| fails(|tally| tally.outputs = Outputs::of(few(at))));
+    }
+
+    #[test]
+    fn a_run_that_lacks_a_reason_of_writings_fails() {
+        (1..=12).for_each(|reason| fails(|tally| tally.writings.counts[reason] -= 1));
     }
 }
