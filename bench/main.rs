@@ -1,9 +1,11 @@
 //! Times as ratios: the product's archive against the second program, against a bare scan for line ends and, where it is built with `--cfg before`,
-//! against the archive of an earlier landing, interleaved in one run. `bench count WAY FEED TIMES` runs one of them alone, for a counter of instructions.
+//! against the archive of an earlier landing, interleaved in one run; and its writing against its placing. `bench count WAY FEED TIMES` runs one of them
+//! alone, for a counter of instructions.
 #[path = "../second/src/judge/mod.rs"]
 #[allow(dead_code, unused_imports)]
 mod judge;
 
+use std::cell::RefCell;
 use std::hint::black_box;
 use std::time::Instant;
 
@@ -14,10 +16,27 @@ struct Judged {
     rows: u32,
 }
 
+#[repr(C)]
+struct Placed {
+    load: u32,
+    count: u32,
+    reason: u32,
+    line: u32,
+}
+
+#[repr(C)]
+struct Written {
+    reason: u32,
+    line: u32,
+    length: u32,
+}
+
 type Judge = unsafe extern "C" fn(*const u8, usize, usize) -> Judged;
 
 extern "C" {
     fn odm_judge(feed: *const u8, length: usize, message: usize) -> Judged;
+    fn odm_place(load: u32, count: u32, feed: *const u8, length: usize, message: usize, table: *mut u8, room: usize) -> Placed;
+    fn odm_write(feed: *const u8, length: usize, message: usize, buffer: *mut u8, room: usize) -> Written;
     #[cfg(before)]
     fn before_odm_judge(feed: *const u8, length: usize, message: usize) -> Judged;
 }
@@ -63,6 +82,31 @@ fn scan(feed: &[u8], messages: &[usize]) -> u64 {
     endings
 }
 
+thread_local! {
+    /// What a table or a buffer is lent from: room for the rows of any feed, and so for its text.
+    static LENT: RefCell<Vec<u8>> = RefCell::new(vec![0; 10 * 65_535]);
+}
+
+fn place(feed: &[u8], messages: &[usize]) -> u64 {
+    LENT.with_borrow_mut(|table| {
+        let placed = messages.iter().map(|&message| unsafe { odm_place(0, 0, feed.as_ptr(), feed.len(), message, table.as_mut_ptr(), table.len()) });
+        placed.map(|answer| right(answer.reason, answer.load + answer.count + answer.line)).sum()
+    })
+}
+
+fn write(feed: &[u8], messages: &[usize]) -> u64 {
+    LENT.with_borrow_mut(|buffer| {
+        let written = messages.iter().map(|&message| unsafe { odm_write(feed.as_ptr(), feed.len(), message, buffer.as_mut_ptr(), feed.len()) });
+        written.map(|answer| right(answer.reason, answer.length + answer.line)).sum()
+    })
+}
+
+/// A refusal would be fast, and no measure of anything.
+fn right(reason: u32, sum: u32) -> u64 {
+    assert_eq!(reason, 0);
+    u64::from(sum)
+}
+
 type Way = fn(&[u8], &[usize]) -> u64;
 
 /// The product first: the others' times are what its own is held against.
@@ -73,6 +117,9 @@ const WAYS: &[(&str, Way)] = &[
     ("second", second),
     ("scan", scan),
 ];
+
+/// Writing first, and the placing that it is held against.
+const SENDING: &[(&str, Way)] = &[("write", write), ("place", place)];
 
 fn head() -> String {
     "CCSDS_OEM_VERS = 1.0\nCREATION_DATE = 2000-01-01T00:00:00\nORIGINATOR = BENCH\nMETA_START\nOBJECT_NAME = A\nOBJECT_ID = B\nCENTER_NAME = EARTH\nREF_FRAME = ICRF\nTIME_SYSTEM = UTC\nSTART_TIME = 2000-001T00:00:00\nSTOP_TIME = 2000-366T00:00:00\nMETA_STOP\n".to_string()
@@ -186,6 +233,10 @@ fn times() {
             println!("  against {}: {:.2}", against, times[0] / time);
         }
     }
+    let feed = &feeds()[0];
+    let times = measure(&feed.bytes, &feed.messages, &SENDING.iter().map(|way| way.1).collect::<Vec<Way>>(), 41, feed.calls);
+    println!("writing a {}: {:.1} microseconds", feed.name, times[0] * 1e6);
+    println!("  against placing it: {:.2}", times[0] / times[1]);
     println!("growth from 4 KB, per byte, doubling:");
     let feeds: Vec<Vec<u8>> = (0..5).map(|doubling| ephemeris(((4 * 1024) << doubling).min(65_535))).collect();
     let times = growth(&feeds, 61);
@@ -196,7 +247,7 @@ fn times() {
 
 /// One way on one feed, so many times over: what a counter of instructions is run on.
 fn count(way: &str, feed: usize, calls: usize) {
-    let way = WAYS.iter().find(|known| known.0 == way).expect("no such way").1;
+    let way = WAYS.iter().chain(SENDING).find(|known| known.0 == way).expect("no such way").1;
     let feed = feeds().swap_remove(feed);
     for _ in 0..calls {
         black_box(way(black_box(&feed.bytes), &feed.messages));

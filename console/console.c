@@ -1,7 +1,8 @@
-/* The console: an analyst loads a message of a feed and has its rows spoken. It judges nothing: every answer about a message, a row or a
+/* The console: an analyst loads a message of a feed, has its rows spoken and sends it on. It judges nothing: every answer about a message, a row or a
  * ticket is the library's, and every value is one that the present load judged (desk.h). Here are the commands and what is said.
  */
 #define _POSIX_C_SOURCE 200809L
+#include <errno.h>
 #include <inttypes.h>
 #include <stdbool.h>
 #include <stddef.h>
@@ -11,6 +12,7 @@
 #include <unistd.h>
 
 #include "desk.h"
+#include "file.h"
 #include "voice.h"
 #include "words.h"
 
@@ -38,6 +40,14 @@ static void say_messages(void) {
     }
 }
 
+/* What could not be done with a file, and why. */
+static void say_error(const char *deed, const char *name, int error) {
+    say("cannot %s %s", deed, name);
+    if (error == 0) say("reason: it is not known");
+    else if (error == EEXIST) say("reason: a file or folder of this name is there already, and it stays as it is");
+    else say("reason: %s", strerror(error));
+}
+
 /* Brings a feed in for the next load, or says why it cannot be read. */
 static bool bring_feed(const char *name) {
     int error;
@@ -46,8 +56,7 @@ static bool bring_feed(const char *name) {
         say("feed %s", name);
         say_messages();
     } else {
-        say("cannot read %s", name);
-        say("reason: %s", error == 0 ? "it is not known" : strerror(error));
+        say_error("read", name, error);
     }
     return right;
 }
@@ -214,6 +223,21 @@ static void run_feed(struct argument argument) {
     if (desk_rows() > 0) say("the present load stays as it is");
 }
 
+static void run_write(struct argument argument) {
+    if (!loaded_or_say()) return;
+    struct sent sent = desk_write();
+    int error;
+    if (sent.answer.reason != ODM_OK) {
+        say("message %zu refused", sent.message);
+        say_reason(sent.answer.reason, sent.answer.line);
+    } else if (file_put(argument.text, sent.text, sent.answer.length, &error)) {
+        say("message %zu written to %s", sent.message, argument.text);
+        say("%" PRIu32 " bytes", sent.answer.length);
+    } else {
+        say_error("write", argument.text, error);
+    }
+}
+
 static void run_help(struct argument argument);
 
 static void run_quit(struct argument argument) {
@@ -241,6 +265,7 @@ static const struct command {
     {"ticket", A_NUMBER, UINT32_MAX, run_ticket, "ticket N: keep a ticket for row N of the present load"},
     {"speak", NOTHING, 0, run_speak, "speak: speak the row of the kept ticket"},
     {"feed", A_FILE, 0, run_feed, "feed FILE: bring in a feed for the next load, and the present load stays"},
+    {"write", A_FILE, 0, run_write, "write FILE: write the message of the present load to a new file, in plain form"},
     {"help", NOTHING, 0, run_help, "help: say these lines"},
     {"quit", NOTHING, 0, run_quit, "quit: end the session"},
 };

@@ -1,5 +1,5 @@
 /* The console's desk: the one place that lends bytes to the library, and always a feed and a table that belong together. A value can be had only
- * from a row that the library gives to a ticket, and so only from the bytes that the present load judged.
+ * from a row that the library gives to a ticket, and a message's text only of the present load: so both only from the bytes that this load judged.
  */
 #ifndef DESK_H
 #define DESK_H
@@ -22,6 +22,13 @@ struct heard {
     const uint8_t *value; /* the row's bytes, row.length of them; NULL on a refusal */
 };
 
+/* The present load's message, written out by the library. */
+struct sent {
+    odm_written answer;
+    size_t message;      /* its number in the feed that it was loaded from */
+    const uint8_t *text; /* the answer's length of bytes, until the next writing; NULL on a refusal */
+};
+
 /* Reads a feed file for the next load. The present load stays as it is; where the file cannot be read, so does the feed for the next load, and
  * `error` says why, 0 where that is not known.
  */
@@ -39,5 +46,8 @@ uint32_t desk_rows(void);
 
 /* The row that a load number and a row number stand for. */
 struct heard desk_read(uint32_t load, uint32_t row);
+
+/* The present load's message in plain form; without a load the answer is ODM_NO_MESSAGE. No desk moves, and no ticket ends. */
+struct sent desk_write(void);
 
 #endif

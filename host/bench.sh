@@ -65,3 +65,7 @@ for feed in 0 1 2 3 4; do
     echo "  against $named: $(awk "BEGIN { printf \"%.3f\", $own / $other }") ($other)"
   done
 done
+written=$(instructions write 0)
+placed=$(instructions place 0)
+echo "writing a $(cut -f 2 build/bench.feed): $written, $(awk "BEGIN { printf \"%.1f\", $written / $(cut -f 1 build/bench.feed) }") a byte of the feed"
+echo "  against placing it: $(awk "BEGIN { printf \"%.3f\", $written / $placed }") ($placed)"
