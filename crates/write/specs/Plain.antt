@@ -6,7 +6,7 @@ use mathlib.Core.Bool.{Bool, true, false, not, _&&_}
 use lib.Dec.{eqb}
 use lib.ListN.{length, take, drop}
 use Rattle.words.specs.Words.{bytes}
-use Rattle.keywords.specs.Keywords.{Entry, is, keywords}
+use Rattle.keywords.specs.Keywords.{Entry, keywords}
 use Rattle.grammar.specs.Rows.{between}
 use Rattle.grammar.specs.declared.Form.{Form}
 use Rattle.grammar.specs.declared.Form.the-variants.{Opm, Oem}

@@ -1,7 +1,6 @@
 -- The two messages are written out so by computation on the definitions.
 -- Assumes nothing.
 use mathlib.Core.Path.{refl}
-use mathlib.Core.List.{map}
 use Rattle.words.specs.Words.{bytes, agrees, run, isWord}
 use Rattle.lines.specs.Feed.{lastLine, linesFrom}
 use Rattle.lines.specs.Text.{cutEnd, trimOf, heads, headingOf, wordEnds, commentOf, sidesOf, assignmentOf, fieldThen, fieldsFrom, fieldMore, gathered}

@@ -1,6 +1,6 @@
 -- `odm::odm_write` meets its contract: the answer's numbers, and the buffer by the answer.
 -- Assumes nothing.
-use mathlib.Core.Path.{_≡_, refl, sym, ap, _∙_}
+use mathlib.Core.Path.{_≡_, sym, ap, _∙_}
 use Rattle.write.specs.Written.{writtenOf, bufferAfter}
 use Rattle.write.specs.Plain.{plainOf}
 use Rattle.write.specs.declared.Written.{Written}
