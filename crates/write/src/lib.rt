@@ -11,7 +11,7 @@ ghost use mathlib.Core.Path.{_≡_};
 ghost use mathlib.Core.Bool.{true};
 ghost use mathlib.Core.List.{_++_};
 ghost use Prim.Native.Nat.{_+_, _≤_, _<_};
-ghost use lib.ListN.{length, drop};
+ghost use lib.ListN.{length};
 ghost use Rattle.words.specs.Words.{bytes};
 ghost use Rattle.write.specs.Plain.{leadOf, plainOf};
 ghost use Rattle.write.specs.Written.{fitted, writtenOf, bufferAfter};
