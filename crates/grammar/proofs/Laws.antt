@@ -1,17 +1,20 @@
--- Laws of the tables on codes, of the facts that a match leaves on a code, and of units.
+-- Laws of the tables on codes, of the facts that a match leaves on a code, of units, and of what comes next.
 -- Assumes nothing.
-use mathlib.Core.Path.{_≡_, refl}
+use mathlib.Core.Path.{_≡_, refl, sym, _∙_}
 use mathlib.Core.Logic.{_⊎_, inl, inr}
-use mathlib.Core.Bool.{Bool, true, false, _&&_}
+use mathlib.Core.Bool.{Bool, true, false, not, _&&_, _||_, and-eq-true-iff, false≢true}
 use mathlib.Core.List.{List, [], _∷_}
-use Prim.Native.Nat.{ℕ, zero, suc, _≤_}
+use Prim.Native.Nat.{ℕ, zero, suc, zero-le, _≤_, _<_}
 use native.Mathlib.Omega.{arith}
-use lib.Dec.{leb}
+use lib.Dec.{eqb, leb}
 use lib.ListN.{length}
-use borrow.Author.Tests.{le-leb, leb-true, ne-eqb}
+use borrow.Author.Tests.{le-leb, lt-leb, leb-true, leb-false, ne-eqb}
 use Rattle.words.specs.Words.{isWord}
-use Rattle.grammar.specs.Rows.{Row, pick}
+use Rattle.grammar.specs.Rows.{between, Row, pick}
 use Rattle.grammar.specs.Keywords.{unitOf, isUnit}
+use Rattle.grammar.specs.Order.{only, opmOrder, oemOrder, nextOf, allows}
+use Rattle.grammar.specs.declared.Form.{Form}
+use Rattle.grammar.specs.declared.Form.the-variants.{Opm, Oem}
 
 -- ---- a table's row by its number, from 0: past the last one, no row has the code
 
@@ -58,3 +61,45 @@ module _ (n : ℕ) (s : List ℕ) (h : length s ≡ 0 → ⊥) where
   pub unit-none : [] ≡ unitOf n → false ≡ isUnit n s
   unfolding isWord
   unit-none e = rw (← unit-is [] e, ne-eqb (length s) 0 h, isWord)
+
+-- ---- what comes next, at every code
+
+-- whether it is so at each number below k
+unfoldable pub below : (ℕ → Bool) → ℕ → Bool
+below p zero = true
+below p (suc k) = p 0 && below (λ n. p (suc n)) k
+
+below-all : (p : ℕ → Bool) (k n : ℕ) → below p k ≡ true → n < k → p n ≡ true
+unfolding below
+below-all p zero n e h = absurd (omega arith)
+below-all p (suc k) zero e h = and-eq-true-iff (p 0) _ .0 e .0
+below-all p (suc k) (suc n) e h = below-all (λ m. p (suc m)) k n (and-eq-true-iff (p 0) _ .0 e .1) (omega arith)
+
+-- no row has this code or a later one
+abbrev beyond : ℕ
+beyond = 46
+
+next-beyond : (f : Form) (n : ℕ) → beyond ≤ n → nextOf f n ≡ only 0
+unfolding nextOf
+next-beyond Opm n h = sym (picks opmOrder (only 0) beyond n (omega arith))
+next-beyond Oem n h = sym (picks oemOrder (only 0) beyond n (omega arith))
+
+none-allowed : (c : ℕ) (t : Bool) → leb 1 c ≡ t → t && (eqb c 0 || between 0 0 c) ≡ false
+none-allowed c true e = let h = leb-true 1 c e in rw (ne-eqb c 0 (λ z. omega arith), lt-leb c 0 h, le-leb 0 c zero-le)
+none-allowed c false e = refl
+
+-- whether a code comes next behind one code alone: computed at every code that a row has
+unfoldable pub comesOnly : Form → ℕ → ℕ → Bool
+comesOnly f c m = below (λ n. not (allows (nextOf f n) c) || eqb n m) beyond
+
+pub next-only : (f : Form) (c m : ℕ) → comesOnly f c m ≡ true → (n : ℕ) → (n ≡ m → ⊥) → allows (nextOf f n) c ≡ false
+unfolding comesOnly allows
+next-only f c m e n h = go (leb beyond n) refl
+  where
+    barred : (t : Bool) → not t || eqb n m ≡ true → t ≡ false
+    barred true z = absurd (false≢true (sym (ne-eqb n m h) ∙ z))
+    barred false z = refl
+
+    go : (t : Bool) → leb beyond n ≡ t → allows (nextOf f n) c ≡ false
+    go true z = rw (next-beyond f n (leb-true beyond n z), allows) (none-allowed c _ refl)
+    go false z = barred _ (below-all (λ k. not (allows (nextOf f k) c) || eqb k m) beyond n e (leb-false beyond n z))

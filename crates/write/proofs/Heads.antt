@@ -72,7 +72,7 @@ heading-filled s =
 
 -- ---- the code that it has
 
-pub between-true : (l h n : ℕ) → between l h n ≡ true → (l ≤ n) × (n ≤ h)
+between-true : (l h n : ℕ) → between l h n ≡ true → (l ≤ n) × (n ≤ h)
 between-true l h n e = let w = and-eq-true-iff (leb l n) (leb n h) .0 e in (leb-true l n (w .0), leb-true n h (w .1))
 
 -- what may come next is the code named besides or one of the range

@@ -2,7 +2,7 @@
 -- Assumes nothing.
 use mathlib.Core.Path.{_≡_, refl, sym, ap, _∙_}
 use mathlib.Core.List.{List, [], _∷_, _++_, append-nil}
-use mathlib.Core.Bool.{true, false, not}
+use mathlib.Core.Bool.{true, false, not, false≢true}
 use Prim.Native.Nat.{ℕ, _+_, _≤_, _<_}
 use native.Mathlib.Nat.{add-zero}
 use native.Mathlib.Omega.{arith}
@@ -15,11 +15,11 @@ use Rattle.lines.specs.Text.{assignmentOf, isOdd, splitOf, headingOf}
 use Rattle.lines.specs.declared.Span.{Span}
 use Rattle.lines.specs.declared.Comment.the-variants.{Other}
 use Rattle.epochs.specs.declared.Instant.{Instant}
-use Rattle.grammar.specs.Rows.{Row, between, pick}
-use Rattle.grammar.specs.Order.{only, opmOrder, oemOrder, nextOf}
-use Rattle.grammar.specs.declared.Next.{Next}
+use Rattle.grammar.specs.Rows.{pick}
+use Rattle.grammar.specs.Order.{nextOf, allows}
 use Rattle.grammar.specs.declared.Form.{Form}
 use Rattle.grammar.specs.declared.Form.the-variants.{Opm, Oem}
+use Rattle.grammar.proofs.Laws.{below, comesOnly, next-only}
 use Rattle.step.specs.Step.{part, noRow, oneRow, sevenRows, freshState, pastData, pastComment, fitsHere, stepOf}
 use Rattle.step.specs.declared.State.{State}
 use Rattle.step.specs.declared.Step.{Step}
@@ -30,7 +30,7 @@ use Rattle.judge.proofs.Laws.{not-both}
 use Rattle.write.specs.Plain.{Item, item, leadOf, isField, wordsOf, partingOf, behind as afterItems, plain, typeOf}
 use Rattle.write.proofs.Readings.{whether, Stood, value-stood, DataLine, Clean, Reads, blank, comment, meta, assign, fields, read}
 use Rattle.write.proofs.Names.{comment-either, form-kept}
-use Rattle.write.proofs.Heads.{between-true, allowed, headCode, head-type, first-right, first-code}
+use Rattle.write.proofs.Heads.{allowed, headCode, head-type, first-right, first-code}
 use Rattle.write.proofs.Turns.{word-led, parted-line, field-next, behind-first, behind-append}
 use Rattle.written.proofs.Bytes.{Every, after}
 use Rattle.written.proofs.Joined.{Whole, plain-whole}
@@ -83,43 +83,24 @@ plains-more st t ts h = rw (ne-eqb (stepOf st t .count) 0 h, plains)
 abbrev pub Begun : State → Type 0
 Begun st = st .last ≡ 0 → ⊥
 
-module _ {A : Type 0} (P : A → Type 0) (n : ℕ) where
-  -- each row that has the code
-  abbrev Rows : List (Row A) → Type 0
-  Rows [] = Unit {0}
-  Rows (r ∷ rs) = ((r .low ≤ n) × (n ≤ r .high) → P (r .has n)) × Rows rs
-
-  -- what the default and each row's value satisfy, the value picked satisfies
-  pick-all : (rs : List (Row A)) (d : A) → P d → Rows rs → P (pick rs d n)
-  unfolding pick
-  pick-all [] d h k = h
-  pick-all (r ∷ rs) d h k = whether P (between (r .low) (r .high) n) (λ q. k .0 (between-true (r .low) (r .high) n q)) (λ q. pick-all rs d h (k .1))
-
--- a code may not come next
-abbrev Bars : ℕ → Next → Type 0
-Bars c x = (c ≡ x .also → ⊥) × (x .low ≤ c → x .high < c)
-
 head-low : (f : Form) → (0 < headCode f) × (headCode f ≤ 36)
 head-low Opm = omega arith
 head-low Oem = omega arith
 
--- no heading comes after the start (`omega` takes no more than ten rows at once)
-later : (f : Form) (n : ℕ) → (n ≡ 0 → ⊥) → (g : Form) → Bars (headCode g) (nextOf f n)
-unfolding nextOf
-later Opm n h Opm = pick-all (Bars 1) n opmOrder (only 0) (omega arith) (omega arith)
-later Opm n h Oem = pick-all (Bars 36) n opmOrder (only 0) (omega arith) (omega arith)
-later Oem n h Opm = pick-all (Bars 1) n oemOrder (only 0) (omega arith) (omega arith, (omega arith, omega arith))
-later Oem n h Oem = pick-all (Bars 36) n oemOrder (only 0) (omega arith) (omega arith, (omega arith, omega arith))
+-- headings come at the start only
+heads-first : (f g : Form) → comesOnly f (headCode g) 0 ≡ true
+unfolding nextOf allows pick below comesOnly
+heads-first Opm Opm = refl
+heads-first Opm Oem = refl
+heads-first Oem Opm = refl
+heads-first Oem Oem = refl
 
 -- a code that heads no message
 abbrev HeadsNone : ℕ → Type 0
 HeadsNone c = (g : Form) → c ≡ headCode g → ⊥
 
 fits-later : (st : State) (c : ℕ) → fitsHere st c ≡ true → Begun st → HeadsNone c
-fits-later st c e b g z =
-    let l = later (st .form) (st .last) b g in
-    let w = allowed (nextOf (st .form) (st .last)) c e .1 (λ y. l .0 (sym z ∙ y)) in
-    omega (arith, l .1 (omega (arith, w .0)), w .1)
+fits-later st c e b g z = false≢true (sym (next-only (st .form) (headCode g) 0 (heads-first (st .form) g) (st .last) b) ∙ rw (← z) e)
 
 -- ---- the state behind a line that is right
 
