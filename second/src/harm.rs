@@ -5,10 +5,10 @@ use crate::dice::Dice;
 use crate::make::{any_number, any_text, line_text, oem, opm, Draft, Ending, Line, Part, ENDINGS, OTHER_SYSTEMS};
 
 /// Ways to damage a draft; each does nothing where it finds nothing to damage.
-const HARMS: [fn(&mut Draft, &mut Dice); 24] = [
+const HARMS: [fn(&mut Draft, &mut Dice); 26] = [
     drop_line, double_line, swap_lines, move_line, change_word, change_value, change_value, change_unit, change_unit, change_time,
     change_time, cut_message, add_comment, lengthen_line, spoil_byte, add_formless, add_heading, change_mark, change_fields, add_stranger,
-    stray_sixty, leave_utc, wrong_sixty, move_to_sixty,
+    stray_sixty, leave_utc, wrong_sixty, move_to_sixty, part_interpolation, part_interpolation,
 ];
 
 /// Damages a draft in one way.
@@ -31,13 +31,15 @@ fn any_message<'a>(draft: &'a mut Draft, dice: &mut Dice) -> &'a mut Vec<Line> {
     &mut draft.messages[at]
 }
 
+/// The place of a line of a message that passes the test.
+fn any_place(lines: &[Line], dice: &mut Dice, test: fn(&Line) -> bool) -> Option<usize> {
+    let found: Vec<usize> = (0..lines.len()).filter(|at| test(&lines[*at])).collect();
+    (!found.is_empty()).then(|| dice.pick(&found))
+}
+
 /// A line of a message that passes the test.
 fn any_line<'a>(lines: &'a mut [Line], dice: &mut Dice, test: fn(&Line) -> bool) -> Option<&'a mut Line> {
-    let found: Vec<usize> = (0..lines.len()).filter(|at| test(&lines[*at])).collect();
-    if found.is_empty() {
-        return None;
-    }
-    Some(&mut lines[found[dice.below(found.len())]])
+    any_place(lines, dice, test).map(|at| &mut lines[at])
 }
 
 fn raw(bytes: &[u8]) -> Line {
@@ -297,6 +299,14 @@ fn move_to_sixty(draft: &mut Draft, dice: &mut Dice) {
     set_time(&mut lines[at], time, dice);
 }
 
+/// Takes one of the two lines of interpolation from a segment that has both.
+fn part_interpolation(draft: &mut Draft, dice: &mut Dice) {
+    let lines = any_message(draft, dice);
+    if let Some(at) = any_place(lines, dice, |line| matches!(line.code, 42 | 43)) {
+        lines.remove(at);
+    }
+}
+
 fn cut_message(draft: &mut Draft, dice: &mut Dice) {
     let lines = any_message(draft, dice);
     let keep = dice.between(1, lines.len().max(1));
@@ -458,7 +468,7 @@ mod tests {
 
     #[test]
     fn every_harm_takes_any_draft() {
-        let empty = Draft { before: Vec::new(), messages: vec![Vec::new()], ending: Ending::Always(b"\n"), open_end: false };
+        let empty = of_one(Vec::new());
         for turn in 0..50 {
             for harm in HARMS {
                 let mut dice = Dice::new(3, turn);
@@ -470,11 +480,16 @@ mod tests {
         }
     }
 
+    /// A draft of one message and no more.
+    fn of_one(lines: Vec<Line>) -> Draft {
+        Draft { before: Vec::new(), messages: vec![lines], ending: Ending::Always(b"\n"), open_end: false }
+    }
+
     /// What sound messages of one type come to by a harm, each with whether the harm found something to do.
     fn harmed(harm: fn(&mut Draft, &mut Dice), make: fn(&mut Dice) -> Vec<Line>, seed: u64) -> Vec<(bool, Option<Reason>)> {
         let one = |turn| {
             let mut dice = Dice::new(seed, turn);
-            let mut draft = Draft { before: Vec::new(), messages: vec![make(&mut dice)], ending: Ending::Always(b"\n"), open_end: false };
+            let mut draft = of_one(make(&mut dice));
             let before = write(&draft, &mut dice).feed;
             harm(&mut draft, &mut dice);
             let after = write(&draft, &mut dice).feed;
@@ -487,15 +502,18 @@ mod tests {
         (0..300).map(one).collect()
     }
 
+    /// How many messages were harmed; each must be refused for this reason, and every other one accepted.
+    fn refused_for(reason: Reason, answers: &[(bool, Option<Reason>)]) -> usize {
+        answers.iter().for_each(|(changed, got)| assert_eq!(*got, changed.then_some(reason)));
+        answers.iter().filter(|(changed, _)| *changed).count()
+    }
+
     #[test]
     fn a_second_60_out_of_place_is_a_wrong_value() {
         let seed = 31;
         for make in [opm, oem] {
             for harm in [stray_sixty, leave_utc, wrong_sixty] {
-                let answers = harmed(harm, make, seed);
-                let right = |(changed, reason): &(bool, Option<Reason>)| *reason == changed.then_some(Reason::Value);
-                assert!(answers.iter().all(right), "seed {seed}");
-                assert!(answers.iter().filter(|(changed, _)| *changed).count() > 100, "seed {seed}");
+                assert!(refused_for(Reason::Value, &harmed(harm, make, seed)) > 100, "seed {seed}");
             }
         }
     }
@@ -508,6 +526,29 @@ mod tests {
             assert!(answers.iter().all(|(_, reason)| matches!(reason, None | Some(Reason::TimeOrder))), "seed {seed}");
             assert!(answers.iter().filter(|(changed, reason)| *changed && reason.is_none()).count() > 50, "seed {seed}");
         }
+    }
+
+    #[test]
+    fn one_line_of_interpolation_alone_is_out_of_order() {
+        let seed = 53;
+        assert!(refused_for(Reason::Order, &harmed(part_interpolation, oem, seed)) > 150, "seed {seed}");
+        assert_eq!(refused_for(Reason::Order, &harmed(part_interpolation, opm, seed)), 0, "seed {seed}");
+    }
+
+    #[test]
+    fn either_line_of_interpolation_is_taken() {
+        let seed = 59;
+        let mut taken = [0, 0];
+        for turn in 0..300 {
+            let mut dice = Dice::new(seed, turn);
+            let mut draft = of_one(oem(&mut dice));
+            let count = |draft: &Draft| [42, 43].map(|code| draft.messages[0].iter().filter(|line| line.code == code).count());
+            let before = count(&draft);
+            part_interpolation(&mut draft, &mut dice);
+            let after = count(&draft);
+            (0..2).for_each(|at| taken[at] += before[at] - after[at]);
+        }
+        assert!(taken.iter().all(|count| *count > 75), "seed {seed}: INTERPOLATION and degree taken {taken:?} times");
     }
 
     #[test]

@@ -209,11 +209,10 @@ impl<'d> Maker<'d> {
         }
     }
 
+    /// Both lines or neither, since one alone is out of order.
     fn interpolation(&mut self) {
         if self.dice.percent(50) {
             self.text(42, "INTERPOLATION");
-        }
-        if self.dice.percent(50) {
             let value = any_integer(self.dice);
             self.assign(43, "INTERPOLATION_DEGREE", value, "");
         }
@@ -634,6 +633,27 @@ mod tests {
             }
         }
         assert!(to_utc > 50 && from_utc > 50, "seed {seed}: to UTC {to_utc}, from UTC {from_utc}");
+    }
+
+    #[test]
+    fn a_segment_has_both_lines_of_interpolation_or_neither() {
+        let seed = 47;
+        let (mut both, mut neither, mut parted) = (0, 0, 0);
+        for turn in 0..500 {
+            for segment in oem(&mut Dice::new(seed, turn)).chunk_by(|_, next| next.code != 37).skip(1) {
+                let place = |code| segment.iter().position(|line| line.code == code);
+                match (place(42), place(43)) {
+                    (Some(method), Some(degree)) => {
+                        assert!(method < degree, "seed {seed}, turn {turn}");
+                        both += 1;
+                        parted += usize::from(degree - method > 1);
+                    }
+                    (None, None) => neither += 1,
+                    _ => panic!("seed {seed}, turn {turn}: one of the two lines alone"),
+                }
+            }
+        }
+        assert!(both > 300 && neither > 300 && parted > 50, "seed {seed}: both {both}, neither {neither}, parted {parted}");
     }
 
     #[test]

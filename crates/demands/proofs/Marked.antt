@@ -16,11 +16,16 @@ use Rattle.grammar.specs.Rows.{pick}
 use Rattle.keywords.specs.Keywords.{keywords, codeIn}
 use Rattle.grammar.specs.Keywords.{keywordOf, isUnit}
 use Rattle.grammar.specs.Order.{nextOf, allows}
+use Rattle.grammar.specs.declared.Form.{Form}
+use Rattle.grammar.specs.declared.Form.the-variants.{Oem}
+use Rattle.grammar.specs.declared.Keyword.the-variants.{Code}
+use Rattle.grammar.proofs.Laws.{below, comesOnly, next-only}
 use Rattle.step.specs.Step.{sixtyStands, isTimely, areNumbers, dataAt, dataOf, fieldsOf, pastWhole, wholeOf, numberOf, pastTime, isEarly, timeOf, valueOf, assignOf, metaCode, metaOf, plainOf, pastComment, uncommentedOf, filledOf, stepOf}
 use Rattle.judge.specs.Message.{fromHeading, headings, upTo, messageOf, endOf, judgeTexts, judgeLines, judgeOf, groupOf, rowsAt, rowsFrom, rowsLines}
 use Rattle.desk.specs.Loads.{deskAfter, loadOf}
 use Rattle.rows.specs.Place.{roomFor}
 use Rattle.demands.specs.Sixty.{epochStands, sixty, InAnyState, Sixty}
+use Rattle.demands.specs.Degree.{Tied, Degree}
 use Rattle.demands.specs.Marked.{Marked}
 use Rattle.demands.specs.Healing.{Met}
 
@@ -57,6 +62,28 @@ any-state = (
   (λ st f s h u e. rw (h, dataOf) (rw (no-sixty _ (sixtyStands st 9) e u))),
 )
 
+-- ---- INTERPOLATION and its degree, in any state
+
+degree-named : (g : Form) (w : List ℕ) → g ≡ Oem → w ≡ bytes "INTERPOLATION_DEGREE" → keywordOf g w ≡ Code 43
+unfolding bytes agrees isWord keywords codeIn pick keywordOf
+degree-named g w f e = rw (f, e)
+
+-- a degree comes next behind INTERPOLATION alone
+degree-next : (g : Form) → g ≡ Oem → comesOnly g 43 42 ≡ true
+unfolding nextOf allows pick below comesOnly
+degree-next g f = rw f
+
+stop-next : (g : Form) (n : ℕ) → g ≡ Oem → n ≡ 42 → allows (nextOf g n) 44 ≡ false
+unfolding nextOf allows pick
+stop-next g n f e = rw (f, e)
+
+tied : Tied
+unfolding assignOf metaOf
+tied = (
+  (λ st x s f e h. rw (degree-named (st .form) _ f e, next-only (st .form) 43 42 (degree-next (st .form) f) (st .last) h, assignOf)),
+  (λ st n f e. rw (stop-next (st .form) (st .last) f e, metaOf)),
+)
+
 -- one declaration, so that the definitions are opened once
 both : Marked × Met
 unfolding has bytes agrees run isWord lastLine linesFrom linesBefore cutEnd trimOf heads headingOf wordEnds commentOf sidesOf assignmentOf fieldThen fieldsFrom fieldMore gathered signLen isExponent endsNumber afterWhole isNumber digitsFrom integerTop isInteger isLeap monthDays daysBefore monthDay yearDay lastSecond isClock isFraction timedOf epochOf isBefore pick keywords codeIn keywordOf isUnit nextOf allows isTimely areNumbers dataAt dataOf fieldsOf pastWhole wholeOf numberOf pastTime isEarly timeOf valueOf assignOf metaCode metaOf plainOf pastComment uncommentedOf filledOf stepOf fromHeading headings upTo messageOf endOf judgeTexts judgeLines judgeOf groupOf rowsAt rowsFrom rowsLines roomFor deskAfter loadOf
@@ -69,8 +96,9 @@ both =
       (refl, refl, refl, refl, refl, refl, refl, refl, refl, refl, refl),
       (refl, refl, refl, refl, refl, refl),
       (refl, refl, refl),
-    ) in (
-      ((λ b. refl), (λ b. refl), (λ b. refl), (λ b. refl), (λ b. refl), sixties, refl, refl, refl, refl, refl, refl, refl, refl, refl, refl, refl, refl, refl, refl),
+    ) in
+    let degrees : Degree = (tied, (refl, refl, refl), (refl, refl, refl, refl), (refl, refl, refl), (refl, refl, refl)) in (
+      ((λ b. refl), (λ b. refl), (λ b. refl), (λ b. refl), (λ b. refl), sixties, refl, refl, refl, refl, refl, degrees, refl, refl, refl, refl, refl, refl, refl, refl, refl),
       (mem-of 2 _ refl, mem-of 22 _ refl, refl, refl, refl, refl, refl, refl),
     )
 

@@ -1,4 +1,5 @@
 pub mod Sixty
+pub mod Degree
 pub mod Marked
 pub mod Loads
 pub mod Healing

@@ -1,4 +1,5 @@
--- The cases that document 01 marks, settled on the definitions themselves, as one listed statement; of second 60 what document 02, (ii), says.
+-- The cases that document 01 marks, settled on the definitions themselves, as one listed statement; of second 60 and of a missing degree what
+-- document 02, (ii) and (iv), says.
 -- Assumes nothing.
 use Prim.Native.Nat.{ℕ}
 use Prim.Native.String.{String}
@@ -16,6 +17,7 @@ use Rattle.desk.specs.Loads.{loadOf}
 use Rattle.desk.specs.declared.Desk.{Desk}
 use Rattle.step.specs.declared.Reason.the-variants as Reasons
 use Rattle.demands.specs.Sixty.{epochStands, Sixty}
+use Rattle.demands.specs.Degree.{Degree}
 
 abbrev pub numberStands : String → Bool
 numberStands s = isNumber (bytes s)
@@ -84,6 +86,7 @@ Marked =
     × (numberStands "5." ≡ false)
     × (degreeStands "2147483647" ≡ true)
     × (degreeStands "2147483648" ≡ false)
+    × Degree
     × (longAt 254 ≡ false)
     × (longAt 255 ≡ true)
     × (length feedInFull ≡ 244)

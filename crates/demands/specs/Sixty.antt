@@ -60,18 +60,23 @@ opmOf creation system epoch ignition =
 abbrev pub headOf : String → List ℕ
 headOf creation = bytes "CCSDS_OEM_VERS=1.0\n" ++ line "CREATION_DATE=" creation ++ bytes "ORIGINATOR=A\n"
 
--- a segment of 12 lines and 18 rows: the times are its lines 7 to 10, the data line its line 12
-abbrev pub segmentOf : String → String → String → String → String → String → List ℕ
-segmentOf system start useableStart useableStop stop given =
+-- a segment's first ten lines: the times are its lines 7 to 10
+abbrev pub untilStop : String → String → String → String → String → List ℕ
+untilStop system start useableStart useableStop stop =
     bytes "META_START\nOBJECT_NAME=B\nOBJECT_ID=C\nCENTER_NAME=D\nREF_FRAME=E\n"
     ++ line "TIME_SYSTEM=" system
     ++ line "START_TIME=" start
     ++ line "USEABLE_START_TIME=" useableStart
     ++ line "USEABLE_STOP_TIME=" useableStop
     ++ line "STOP_TIME=" stop
-    ++ bytes "META_STOP\n"
-    ++ bytes given
-    ++ bytes " 1 2 3 4 5 6\n"
+
+-- its last two: the data line has 7 rows
+abbrev pub fromMetaStop : String → List ℕ
+fromMetaStop given = bytes "META_STOP\n" ++ bytes given ++ bytes " 1 2 3 4 5 6\n"
+
+-- a segment of 12 lines and 18 rows
+abbrev pub segmentOf : String → String → String → String → String → String → List ℕ
+segmentOf system start useableStart useableStop stop given = untilStop system start useableStart useableStop stop ++ fromMetaStop given
 
 abbrev pub plain : String
 plain = "2016-12-31T00:00:00"

@@ -35,8 +35,10 @@ opmOrder =
     ∷ []
 
 -- "OEM: 36 CCSDS_OEM_VERS, 2, 3; then one or more segments: 37 META_START, 4, 5, 6, 7, 8, 38 START_TIME, optional 39 USEABLE_START_TIME, optional 40
--- USEABLE_STOP_TIME, 41 STOP_TIME, optional 42 INTERPOLATION, optional 43 INTERPOLATION_DEGREE, 44 META_STOP, then one or more data lines". The code
--- 45 stands for a comment that follows a data line: "a data line is ORDER if a comment stands between it and an earlier data line of its segment."
+-- USEABLE_STOP_TIME, 41 STOP_TIME, [..] 44 META_STOP, then one or more data lines". Between 41 and 44 stand none or both of 42 INTERPOLATION and
+-- 43 INTERPOLATION_DEGREE, by document 02, (iv): "INTERPOLATION_DEGREE without INTERPOLATION is now ORDER at its line, and INTERPOLATION without a
+-- degree is ORDER at META_STOP." The code 45 stands for a comment that follows a data line: "a data line is ORDER if a comment stands between it and
+-- an earlier data line of its segment."
 abbrev pub oemOrder : List (Row Next)
 oemOrder =
     one 0 (only 36)
@@ -47,7 +49,9 @@ oemOrder =
     ∷ steps 4 7
     ∷ one 8 (only 38)
     ∷ each 38 40 (λ n. oneOf (n + 1) 41)
-    ∷ each 41 43 (λ n. oneOf (n + 1) 44)
+    ∷ one 41 (record { low = 42; high = 42; also = 44; end = false })
+    ∷ one 42 (only 43)
+    ∷ one 43 (only 44)
     ∷ one 44 (only 9)
     ∷ one 9 (record { low = 9; high = 9; also = 37; end = true })
     ∷ one 45 (record { low = 37; high = 37; also = 0; end = true })

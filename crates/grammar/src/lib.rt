@@ -152,7 +152,14 @@ fn oem_next(last: u16) -> Next
         4..=7 => only_code(last + 1),
         8 => only_code(38),
         38..=40 => one_of(last + 1, 41),
-        41..=43 => one_of(last + 1, 44),
+        41 => Next {
+            low: 42,
+            high: 42,
+            also: 44,
+            end: false,
+        },
+        42 => only_code(43),
+        43 => only_code(44),
         44 => only_code(9),
         9 => Next {
             low: 9,

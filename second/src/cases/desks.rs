@@ -1,6 +1,7 @@
 //! Cases about loads and tickets: what a load leaves of desk and table, and what a ticket hears.
 
-use super::{oem, opm, row, FULL_ROWS};
+use super::degree::{with, DEGREE, METHOD};
+use super::{joined_sheets, oem, opm, row, wide_oem, FULL_ROWS};
 use crate::desk::{Desk, Heard, Load, Placed, Reading, Ticket, ASTRAY, FINE, FRESH, GONE, NO_ROOM, NO_ROW, SPENT};
 use crate::judge::Reason::{self, *};
 
@@ -39,6 +40,7 @@ pub fn desks() -> DeskCases {
     feed_long_next(&mut book);
     messages(&mut book);
     wrong_messages(&mut book);
+    degrees(&mut book);
     own_rows(&mut book);
     other_loads(&mut book);
     rows_past_the_count(&mut book);
@@ -202,13 +204,16 @@ fn load_numbers(book: &mut DeskCases) {
 }
 
 /// Wrong messages, each with document 01's number and the line.
-pub(super) fn wrong() -> [(Reason, u32, Vec<u8>); 10] {
+pub(super) fn wrong() -> [(Reason, u32, Vec<u8>); 12] {
     [
         (Long, 5, oem().put(5, format!("{:255}", "OBJECT_NAME=B")).into()),
         (Byte, 5, oem().put(5, "OBJECT_NAME=\t").into()),
         (Form, 5, oem().put(5, "OBJECT_NAME").into()),
         (Keyword, 5, oem().put(5, "NAME=B").into()),
         (Order, 13, oem().twice(12).into()),
+        // A degree without INTERPOLATION, and INTERPOLATION without a degree.
+        (Order, 14, wide_oem().drop(14).into()),
+        (Order, 15, wide_oem().drop(15).into()),
         (Value, 5, oem().put(5, "OBJECT_NAME=").into()),
         (Unit, 10, opm().put(10, "X=1 [km]").into()),
         (TimeOrder, 11, oem().put(11, "STOP_TIME=1999-001T00:00:00").into()),
@@ -283,6 +288,45 @@ fn wrong_messages(book: &mut DeskCases) {
             let name = format!("{} at {line}, table of {size} bytes", reason.name());
             book.falls(&name, FULL, (feed.clone(), 1), size, (desk(2, 0), reason.number(), line));
         }
+    }
+}
+
+/// The feed in full with both lines of interpolation: two rows more, and what comes after them is two lines and 45 bytes on.
+fn rows_with_both() -> Vec<[u16; 5]> {
+    let after = FULL_ROWS[11..].iter().map(|[code, group, line, start, length]| [*code, *group, line + 2, start + 45, *length]);
+    FULL_ROWS[..11].iter().copied().chain([[42, 1, 12, 216, 7], [43, 1, 13, 245, 1]]).chain(after).collect()
+}
+
+/// Both lines of interpolation fill the table with the rest; one alone keeps it, and leaves the next message as it is.
+fn degrees(book: &mut DeskCases) {
+    let both = || with(&oem(), 12, &[METHOD, DEGREE]);
+    let rows = rows_with_both();
+    for size in [0, 190, 200, 208, 209] {
+        book.falls(&format!("no room for both lines in {size} bytes"), FULL, (both().into(), 1), size, (desk(2, 0), NO_ROOM, 0));
+    }
+    for size in [210, 211, 420] {
+        let want = Placed { desk: desk(2, 21), reason: FINE, line: 0, table: over(&rows, size) };
+        book.load(&format!("both lines in {size} bytes"), FULL, (both().into(), 1), lent(size), want);
+    }
+    for (number, want) in (0..).zip(&rows) {
+        let lent = (both().into(), over(&rows, 210));
+        book.read(&format!("row {number} of a segment with both lines"), desk(2, 21), (2, number), lent, Ok(*want));
+    }
+    book.read("row 21 of a segment with both lines", desk(2, 21), (2, 21), (both().into(), over(&rows, 400)), Err(NO_ROW));
+    // A degree is 23 bytes with its LF, INTERPOLATION 22.
+    for (name, alone, line, by) in [("a degree", DEGREE, 12, 267), ("INTERPOLATION", METHOD, 13, 266)] {
+        let wrong = || with(&oem(), 12, &[alone]);
+        let pair = joined_sheets(&[wrong(), both()]);
+        let moved: Vec<[u16; 5]> =
+            rows.iter().map(|[code, group, line, start, length]| [*code, *group, *line, start + by, *length]).collect();
+        for size in [0, 190, 199, 200, 210, 1_001] {
+            let name = format!("{name} alone, table of {size} bytes");
+            book.falls(&name, FULL, (wrong().into(), 1), size, (desk(2, 0), 7, line));
+            book.falls(&format!("{name}, before both"), FULL, (pair.clone(), 1), size, (desk(2, 0), 7, line));
+        }
+        let want = Placed { desk: desk(2, 21), reason: FINE, line: 0, table: over(&moved, 211) };
+        book.load(&format!("both lines after {name} alone"), FULL, (pair.clone(), 2), lent(211), want);
+        book.falls(&format!("no room for both lines after {name} alone"), FULL, (pair, 2), 209, (desk(2, 0), NO_ROOM, 0));
     }
 }
 

@@ -1,6 +1,6 @@
 //! Cases about whole feeds: figures, message numbers, headings, several messages, and sizes.
 
-use super::{oem, opm, row, wide_opm, Book, Sheet, Want, FULL_ROWS};
+use super::{joined_sheets, oem, opm, row, wide_opm, Book, Sheet, Want, FULL_ROWS};
 use crate::judge::Reason::{self, *};
 
 /// The figures of document 002 as printed.
@@ -101,23 +101,19 @@ pub(super) fn headings(book: &mut Book) {
     book.falls("a heading alone, without an ending", b"CCSDS_OEM_VERS=1.0".to_vec(), Short, 2);
 }
 
-fn joined(sheets: &[Sheet]) -> Vec<u8> {
-    sheets.iter().flat_map(|sheet| sheet.ended(b"\n")).collect()
-}
-
 /// Several messages to a feed, and bytes before the first.
 pub(super) fn several_messages(book: &mut Book) {
     let accepted = |rows| Want::Accepted { rows, shown: Vec::new() };
-    let two = joined(&[opm(), oem()]);
+    let two = joined_sheets(&[opm(), oem()]);
     book.add("OPM and OEM, message 1", two.clone(), Ok(2), 1, accepted(20));
     book.add("OPM and OEM, message 2", two.clone(), Ok(2), 2, accepted(19));
     book.add("OPM and OEM, message 3", two.clone(), Ok(2), 3, Want::Refused(NoMessage, 0));
     book.add("OPM and OEM, message 0", two, Ok(2), 0, Want::Refused(NoMessage, 0));
-    let short = joined(&[wide_opm().keep(30), oem(), opm().drop(3)]);
+    let short = joined_sheets(&[wide_opm().keep(30), oem(), opm().drop(3)]);
     book.add("three messages, the first short", short.clone(), Ok(3), 1, Want::Refused(Short, 31));
     book.add("three messages, the second sound", short.clone(), Ok(3), 2, accepted(19));
     book.add("three messages, the third out of order", short, Ok(3), 3, Want::Refused(Order, 3));
-    let gap = joined(&[oem().drop(13).add("").add("   "), oem()]);
+    let gap = joined_sheets(&[oem().drop(13).add("").add("   "), oem()]);
     book.add("blank lines before the next heading count for the first", gap.clone(), Ok(2), 1, Want::Refused(Short, 15));
     book.add("blank lines before a heading are not its own", gap, Ok(2), 2, accepted(19));
     let twice = oem().twice(1);
@@ -129,7 +125,7 @@ pub(super) fn several_messages(book: &mut Book) {
     let late = oem().add("CCSDS_OEM_VERS=");
     book.add("heading after a sound message, message 1", late.clone().into(), Ok(2), 1, accepted(19));
     book.add("heading after a sound message, message 2", late.into(), Ok(2), 2, Want::Refused(Value, 1));
-    let bad_second = joined(&[oem(), oem().put(1, format!("{:300}", "CCSDS_OEM_VERS=1.0"))]);
+    let bad_second = joined_sheets(&[oem(), oem().put(1, format!("{:300}", "CCSDS_OEM_VERS=1.0"))]);
     book.add("a long heading ends the message before it", bad_second.clone(), Ok(2), 1, accepted(19));
     book.add("a long heading begins its own message", bad_second, Ok(2), 2, Want::Refused(Long, 1));
     garbage(book);

@@ -1,5 +1,6 @@
 //! Fixed cases: the figures of document 002, and every edge of document 01, each with its answer written by hand.
 
+mod degree;
 mod desks;
 mod feeds;
 mod lines;
@@ -71,6 +72,17 @@ pub fn all() -> Vec<Case> {
     sixty::reasons(&mut book);
     sixty::neighbours(&mut book);
     sixty::rows(&mut book);
+    degree::alone(&mut book);
+    degree::gaps(&mut book);
+    degree::values(&mut book);
+    degree::spellings(&mut book);
+    degree::others(&mut book);
+    degree::elsewhere(&mut book);
+    degree::other_faults(&mut book);
+    degree::ends(&mut book);
+    degree::messages(&mut book);
+    degree::figures(&mut book);
+    degree::rows(&mut book);
     book.cases
 }
 
@@ -114,6 +126,11 @@ impl Sheet {
         Sheet(lines.iter().map(|line| line.as_bytes().to_vec()).collect())
     }
 
+    /// The lines of a text.
+    fn read(text: &str) -> Sheet {
+        Sheet::of(&text.lines().collect::<Vec<_>>())
+    }
+
     fn put(mut self, line: usize, text: impl AsRef<[u8]>) -> Sheet {
         self.0[line - 1] = text.as_ref().to_vec();
         self
@@ -145,6 +162,11 @@ impl Sheet {
         self
     }
 
+    /// The lines with an LF between them and none after the last.
+    fn joined(&self) -> Vec<u8> {
+        self.0.join(&b'\n')
+    }
+
     fn ended(&self, ending: &[u8]) -> Vec<u8> {
         self.0.iter().flat_map(|line| [line, ending].concat()).collect()
     }
@@ -159,6 +181,11 @@ impl From<Sheet> for Vec<u8> {
     fn from(sheet: Sheet) -> Vec<u8> {
         sheet.ended(b"\n")
     }
+}
+
+/// A feed of these messages.
+fn joined_sheets(sheets: &[Sheet]) -> Vec<u8> {
+    sheets.iter().flat_map(|sheet| sheet.ended(b"\n")).collect()
 }
 
 /// Document 01's feed in full: thirteen lines, 244 bytes, 19 rows.

@@ -55,9 +55,11 @@ pub(super) fn oem_order(book: &mut Book) {
             _ => book.falls(&name, wide_oem().keep(lines), Short, lines + 1),
         }
     }
-    for line in [11, 12, 14, 15] {
+    for line in [11, 12] {
         book.stands(&format!("an OEM without its optional line {line}"), wide_oem().drop(line), 59);
     }
+    book.falls("an OEM with a degree and no INTERPOLATION", wide_oem().drop(14), Order, 14);
+    book.falls("an OEM with INTERPOLATION and no degree", wide_oem().drop(15), Order, 15);
     for line in [10, 13, 16, 27, 28] {
         book.falls(&format!("an OEM without its obligatory line {line}"), wide_oem().drop(line), Order, line);
     }
@@ -72,7 +74,7 @@ pub(super) fn oem_order(book: &mut Book) {
         Order,
         12,
     );
-    book.falls("a degree before its method", wide_oem().put(14, "INTERPOLATION_DEGREE=7").put(15, "INTERPOLATION=Hermite"), Order, 15);
+    book.falls("a degree before its method", wide_oem().put(14, "INTERPOLATION_DEGREE=7").put(15, "INTERPOLATION=Hermite"), Order, 14);
     book.falls("a useable time after STOP_TIME", oem().insert(12, "USEABLE_STOP_TIME=2000-001T00:00:00"), Order, 12);
     book.falls("a useable time before START_TIME", oem().insert(10, "USEABLE_START_TIME=2000-001T00:00:00"), Order, 10);
     book.falls("interpolation before STOP_TIME", oem().insert(11, "INTERPOLATION=x"), Order, 11);

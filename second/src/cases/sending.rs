@@ -1,5 +1,6 @@
 //! Cases about writing a message: what goes out, down to every byte of the buffer, and what keeps the buffer as it was.
 
+use super::degree::{with, DEGREE, METHOD};
 use super::desks::wrong;
 use super::{oem, opm, wide_oem, wide_opm, Sheet};
 use crate::desk::{FINE, NO_ROOM};
@@ -24,6 +25,7 @@ pub fn sendings() -> Vec<SendCase> {
     units(&mut book);
     lines_of_an_oem(&mut book);
     comments(&mut book);
+    degrees(&mut book);
     several_messages(&mut book);
     junk_before(&mut book);
     great_messages(&mut book);
@@ -97,13 +99,6 @@ impl SendBook {
     }
 }
 
-impl Sheet {
-    /// The lines with an LF between them and none after the last.
-    fn joined(&self) -> Vec<u8> {
-        self.0.join(&b'\n')
-    }
-}
-
 /// Messages that go out as they came, but for the last ending; the feed in full has 244 bytes, so 243 go out.
 fn tight(book: &mut SendBook) {
     let sheets =
@@ -120,6 +115,12 @@ fn figures(book: &mut SendBook) {
     book.alone("figure 3-1", include_bytes!("../../../examples/figure-3-1.opm").to_vec(), FIGURE_3_1);
     book.alone("figure 3-2", include_bytes!("../../../examples/figure-3-2.opm").to_vec(), FIGURE_3_2);
     book.falls("figure 4-1 as printed", include_bytes!("../../../examples/figure-4-1.oem"), 1, (8, 26));
+    let whole = include_str!("../../../examples/figure-4-1-whole.oem");
+    book.alone("figure 4-1 without its lines of omission", whole.as_bytes(), FIGURE_4_1);
+    for line in [15, 16, 39, 40] {
+        let feed: Vec<u8> = Sheet::read(whole).drop(line as usize).into();
+        book.falls(&format!("figure 4-1 without its lines of omission and line {line}"), &feed, 1, (7, line));
+    }
     let pair = include_bytes!("../../../examples/damaged-pair.feed");
     book.falls("damaged pair, first message", pair, 1, (8, 11));
 }
@@ -205,6 +206,48 @@ MAN_REF_FRAME=RTN
 MAN_DV_1=0.00101500
 MAN_DV_2=-0.00187300
 MAN_DV_3=0.00000000";
+
+const FIGURE_4_1: &str = "\
+CCSDS_OEM_VERS=1.0
+CREATION_DATE=1996-11-04T17:22:31
+ORIGINATOR=NASA/JPL
+META_START
+OBJECT_NAME=Mars Global Surveyor
+OBJECT_ID=1996-062A
+CENTER_NAME=Mars Barycenter
+REF_FRAME=EME2000
+TIME_SYSTEM=UTC
+START_TIME=1996-12-18T12:00:00.331
+USEABLE_START_TIME=1996-12-18T12:10:00.331
+USEABLE_STOP_TIME=1996-12-28T21:23:00.331
+STOP_TIME=1996-12-28T21:28:00.331
+INTERPOLATION=Hermite
+INTERPOLATION_DEGREE=7
+META_STOP
+COMMENT This file was produced by M.R. Somebody, MSOO NAV/JPL, 2000 OCT 11. It is
+COMMENT to be used for DSN scheduling purposes only.
+1996-12-18T12:00:00.331 2789.619 -280.045 -1746.755 4.73372 -2.49586 -1.04195
+1996-12-18T12:01:00.331 2783.419 -308.143 -1877.071 5.18604 -2.42124 -1.99608
+1996-12-18T12:02:00.331 2776.033 -336.859 -2008.682 5.63678 -2.33951 -1.94687
+1996-12-28T21:28:00.331 -3881.024 563.959 -682.773 -3.28827 -3.66735 1.63861
+META_START
+OBJECT_NAME=Mars Global Surveyor
+OBJECT_ID=1996-062A
+CENTER_NAME=Mars Barycenter
+REF_FRAME=EME2000
+TIME_SYSTEM=UTC
+START_TIME=1996-12-28T21:29:07.267
+USEABLE_START_TIME=1996-12-28T22:08:02.5
+USEABLE_STOP_TIME=1996-12-30T01:18:02.5
+STOP_TIME=1996-12-30T01:28:02.267
+INTERPOLATION=Hermite
+INTERPOLATION_DEGREE=7
+META_STOP
+COMMENT This block begins after trajectory correction maneuver TCM-3.
+1996-12-28T21:29:07.267 -2432.166 -063.042 1742.754 7.33702 -3.495867 -1.041945
+1996-12-28T21:59:02.267 -2445.234 -878.141 1873.073 1.86043 -3.421256 -0.996366
+1996-12-28T22:00:02.267 -2458.079 -683.858 2007.684 6.36786 -3.339563 -0.946654
+1996-12-30T01:28:02.267 2164.375 1115.811 -688.131 -3.53328 -2.88452 0.88535";
 
 /// Whatever ends a line, one LF parts it from the next, and none stands after the last.
 fn endings(book: &mut SendBook) {
@@ -417,6 +460,54 @@ const TWO_OUT: [&str; 2] = ["COMMENT", "COMMENT a = b"];
 
 fn twice(sheet: Sheet, line: usize, comments: [&str; 2]) -> Sheet {
     sheet.insert(line, comments[1]).insert(line, comments[0])
+}
+
+/// INTERPOLATION and its degree go out together, in every segment that has them; one alone keeps the buffer.
+fn degrees(book: &mut SendBook) {
+    for (name, sheet, stop) in [("the only segment", oem(), 12), ("a second segment", wide_oem(), 28)] {
+        let both = with(&sheet, stop, &[METHOD, DEGREE]).joined();
+        let commented = with(&sheet, stop, &["COMMENT", METHOD, "COMMENT x", DEGREE, "COMMENT y"]).joined();
+        for lines in [
+            &[METHOD, DEGREE][..],
+            &["  INTERPOLATION   =  Hermite ", " INTERPOLATION_DEGREE =    7   "],
+            &["", METHOD, "   ", "", DEGREE, " "],
+        ] {
+            book.alone(&format!("{lines:?} in {name}"), with(&sheet, stop, lines), &both);
+        }
+        let lines = [" COMMENT ", METHOD, "COMMENT    x", "", "INTERPOLATION_DEGREE= 7", "COMMENT y "];
+        book.alone(&format!("{lines:?} in {name}"), with(&sheet, stop, &lines), &commented);
+        for (lines, place) in [
+            (&[DEGREE][..], 0),
+            (&[METHOD], 1),
+            (&["COMMENT x", DEGREE], 1),
+            (&[METHOD, "COMMENT x", ""], 3),
+            (&[DEGREE, METHOD], 0),
+            (&[METHOD, METHOD, DEGREE], 1),
+            (&[METHOD, DEGREE, DEGREE], 2),
+        ] {
+            let feed: Vec<u8> = with(&sheet, stop, lines).into();
+            book.falls(&format!("{lines:?} in {name}"), &feed, 1, (7, (stop + place) as u32));
+        }
+        for (lines, answer, place) in [(&[METHOD][..], 11, 1), (&[METHOD, DEGREE], 11, 2), (&[DEGREE], 7, 0)] {
+            let feed: Vec<u8> = with(&sheet.clone().keep(stop - 1), stop, lines).into();
+            book.falls(&format!("{lines:?} last of all in {name}"), &feed, 1, (answer, (stop + place) as u32));
+        }
+    }
+    book.alone("neither line in two segments", wide_oem().drop(14).drop(14), wide_oem().drop(14).drop(14).joined());
+    degrees_of_neighbours(book);
+}
+
+/// A message with one of the two lines alone spoils no other, and is helped by none.
+fn degrees_of_neighbours(book: &mut SendBook) {
+    let right = with(&oem(), 12, &[METHOD, DEGREE]);
+    let (own, out) = (right.ended(b"\n"), right.joined());
+    for (name, alone, line) in [("a degree", DEGREE, 12), ("INTERPOLATION", METHOD, 13)] {
+        let wrong: Vec<u8> = with(&oem(), 12, &[alone]).into();
+        book.goes_out(&format!("both lines after {name} alone"), Among { before: &wrong, own: &own, after: b"", message: 2 }, &out);
+        book.goes_out(&format!("both lines before {name} alone"), Among { before: b"", own: &own, after: &wrong, message: 1 }, &out);
+        book.falls(&format!("{name} alone before both lines"), &[&wrong[..], &own].concat(), 1, (7, line));
+        book.falls(&format!("{name} alone after both lines"), &[&own[..], &wrong].concat(), 2, (7, line));
+    }
 }
 
 /// A message goes out without what stands before its heading, and without the next heading.

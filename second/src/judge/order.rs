@@ -14,11 +14,12 @@ const OPM: &str = "
     MASS SOLAR_RAD_AREA SOLAR_RAD_COEFF DRAG_AREA DRAG_COEFF
     ( MAN_EPOCH_IGNITION MAN_DURATION MAN_DELTA_MASS MAN_REF_FRAME MAN_DV_1 MAN_DV_2 MAN_DV_3 )*";
 
+/// Both lines of interpolation or neither: request (iv) of document 02.
 const OEM: &str = "
     CCSDS_OEM_VERS CREATION_DATE ORIGINATOR
     ( META_START OBJECT_NAME OBJECT_ID CENTER_NAME REF_FRAME TIME_SYSTEM
       START_TIME USEABLE_START_TIME? USEABLE_STOP_TIME? STOP_TIME
-      INTERPOLATION? INTERPOLATION_DEGREE? META_STOP data-line+ )+";
+      ( INTERPOLATION INTERPOLATION_DEGREE )? META_STOP data-line+ )+";
 
 /// How a data line is called in the grammar.
 const DATA_NAME: &str = "data-line";
@@ -256,7 +257,37 @@ mod tests {
         assert_eq!(oem(&[&HEAD[..], &META, &[37]].concat()), Fit::Misfit(12));
         assert_eq!(oem(&[&HEAD[..], &[37, 4, 5, 6, 7, 8, 38, 39, 40, 41, 42, 43, 44, 0]].concat()), Fit::Whole);
         assert_eq!(oem(&[&HEAD[..], &[37, 4, 5, 6, 7, 8, 38, 40, 39]].concat()), Fit::Misfit(11));
-        assert_eq!(oem(&[&HEAD[..], &[37, 4, 5, 6, 7, 8, 38, 41, 43, 42]].concat()), Fit::Misfit(12));
+    }
+
+    #[test]
+    fn both_lines_of_interpolation_or_neither() {
+        let block = [37, 4, 5, 6, 7, 8, 38, 41];
+        let first = [&HEAD[..], &block].concat();
+        let second = [&HEAD[..], &block, &[42, 43, 44, 0, 0], &block].concat();
+        for before in [first, second] {
+            let after = |codes: &[u8]| oem(&[&before[..], codes].concat());
+            let misfit = |place: usize| Fit::Misfit(before.len() + place);
+            assert_eq!(after(&[44, 0]), Fit::Whole);
+            assert_eq!(after(&[42, 43, 44, 0]), Fit::Whole);
+            // One of the two alone.
+            assert_eq!(after(&[43, 44, 0]), misfit(0));
+            assert_eq!(after(&[42, 44, 0]), misfit(1));
+            // Exchanged, or doubled.
+            assert_eq!(after(&[43, 42, 44, 0]), misfit(0));
+            assert_eq!(after(&[42, 42, 43, 44, 0]), misfit(1));
+            assert_eq!(after(&[42, 43, 43, 44, 0]), misfit(2));
+            assert_eq!(after(&[42, 43, 42, 43, 44, 0]), misfit(2));
+            // Something else in place of the degree.
+            assert_eq!(after(&[42, 0]), misfit(1));
+            assert_eq!(after(&[42, 37]), misfit(1));
+            assert_eq!(after(&[42, 41]), misfit(1));
+            // The message ends there.
+            assert_eq!(after(&[42]), Fit::Unfinished);
+            assert_eq!(after(&[42, 43]), Fit::Unfinished);
+            assert_eq!(after(&[43]), misfit(0));
+        }
+        // Too early, both of them.
+        assert_eq!(oem(&[&HEAD[..], &block[..7], &[42, 43, 41, 44, 0]].concat()), Fit::Misfit(10));
     }
 
     #[test]

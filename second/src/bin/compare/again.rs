@@ -3,6 +3,7 @@
 //! where the product's were others, that was told then.
 
 use crate::desks::{next_placed, other_placed, placed_words};
+use crate::outputs;
 use crate::sending::other_sent;
 use crate::tally::Tally;
 use second::desk::{place, read, value, Placed, Reading, Ticket, FINE};
@@ -25,7 +26,7 @@ pub fn compare_again(again: &Again, generated: bool, face: Option<&mut Face>, ta
     let ours = round(again);
     tally.answers += 4;
     if generated {
-        tally.outputs.add_again();
+        tally.outputs.add(outputs::AGAIN);
     }
     let mut facts = check_round("the second program", again, &ours);
     if let Some(face) = face {

@@ -1,6 +1,8 @@
 //! Holds the second judge against what is known, and the face against the second judge.
 
+use crate::degrees;
 use crate::items::{Judging, Known};
+use crate::sixty;
 use crate::tally::Tally;
 use second::cases::Want;
 use second::desk::FINE;
@@ -16,7 +18,8 @@ pub fn compare_judged(asked: &Judging, generated: bool, face: Option<&mut Face>,
     tally.answers += 1 + answers.len();
     if generated {
         answers.iter().for_each(|answer| tally.judged.add(as_judged(answer).reason));
-        tally.sixties.add(&asked.feed, &feed, asked.messages.iter().copied().zip(&answers));
+        tally.sixties.add_feed(&asked.feed, &feed, &asked.messages, &answers, sixty::things);
+        tally.degrees.add_feed(&asked.feed, &feed, &asked.messages, &answers, degrees::things);
     }
     let mut facts = check_known(asked, headings, &answers);
     facts.extend(asked.messages.iter().zip(&answers).flat_map(|(message, answer)| check_earliest(asked, &feed, *message, answer)));

@@ -1,11 +1,13 @@
 //! Runs the second judge, desk and writer beside the product's C face, on fixed cases and on generated feeds, and names every difference.
 
 mod again;
+mod degrees;
 mod desks;
 mod items;
 mod judging;
 mod outputs;
 mod sending;
+mod shown;
 mod sixty;
 mod tally;
 mod words;

@@ -1,7 +1,7 @@
 //! What is counted of writings: what went out, into how much room, and what was left out of it.
 //! What was left out is known by the look of the message's lines beside those that went out, so that the judge's own reading is not asked.
 
-use crate::words::{counts_words, rare};
+use crate::shown::Shown;
 use second::desk::{FINE, NO_ROOM};
 use second::judge::{is_heading, Kind};
 use second::send::Sent;
@@ -34,47 +34,24 @@ const LOADED_AGAIN: usize = 15;
 const WRITTEN_AGAIN: usize = 16;
 
 /// How many writings were counted as each.
-#[derive(Default)]
-pub struct Outputs {
-    counts: [usize; NAMES.len()],
+pub type Outputs = Shown<{ NAMES.len() }>;
+
+pub fn outputs() -> Outputs {
+    Shown::new("generated outputs", "writings", NAMES)
 }
 
-impl Outputs {
-    /// Counts a writing by what came of it, and as each thing once at most.
-    pub fn add(&mut self, writing: &Writing, sent: &Sent) {
-        let Ok(text) = &writing.letter.outgoing else { return };
-        let mut things = room(sent.reason, sent.buffer.len(), text.len());
-        if sent.reason == FINE {
-            things.extend(is_heading(text).map(|kind| if kind == Kind::Opm { OPM } else { OEM }));
-            things.extend(left_out(writing.letter.own_bytes(), text));
-        }
-        things.sort_unstable();
-        things.dedup();
-        things.into_iter().for_each(|thing| self.counts[thing] += 1);
-    }
+/// An output that was loaded and written again.
+pub const AGAIN: [usize; 2] = [LOADED_AGAIN, WRITTEN_AGAIN];
 
-    /// Counts an output that was loaded and written again.
-    pub fn add_again(&mut self) {
-        self.counts[LOADED_AGAIN] += 1;
-        self.counts[WRITTEN_AGAIN] += 1;
+/// What a writing shows by what came of it.
+pub fn things(writing: &Writing, sent: &Sent) -> Vec<usize> {
+    let Ok(text) = &writing.letter.outgoing else { return Vec::new() };
+    let mut things = room(sent.reason, sent.buffer.len(), text.len());
+    if sent.reason == FINE {
+        things.extend(is_heading(text).map(|kind| if kind == Kind::Opm { OPM } else { OEM }));
+        things.extend(left_out(writing.letter.own_bytes(), text));
     }
-
-    #[cfg(test)]
-    pub fn of(counts: [usize; NAMES.len()]) -> Outputs {
-        Outputs { counts }
-    }
-
-    fn named(&self) -> impl Iterator<Item = (&'static str, usize)> + '_ {
-        NAMES.into_iter().zip(self.counts)
-    }
-
-    pub fn rare(&self, floor: usize) -> Vec<String> {
-        rare("writings", self.named(), floor)
-    }
-
-    pub fn words(&self) -> String {
-        format!("generated outputs: {}", counts_words(self.named()))
-    }
+    things
 }
 
 /// How much room there was for so many bytes.
@@ -141,8 +118,8 @@ mod tests {
         let letter = Rc::new(Letter::new(&feed, &Feed::new(&feed), 1));
         let needed = letter.outgoing.as_ref().map_or(0, Vec::len);
         let writing = letter.into_buffer(vec![255; needed.checked_add_signed(more).unwrap()], None);
-        let mut outputs = Outputs::default();
-        outputs.add(&writing, &lay(&writing.letter.outgoing, &writing.sending.buffer));
+        let mut outputs = outputs();
+        outputs.add(things(&writing, &lay(&writing.letter.outgoing, &writing.sending.buffer)));
         (0..NAMES.len()).flat_map(|at| vec![at; outputs.counts[at]]).collect()
     }
 
@@ -177,21 +154,13 @@ mod tests {
     }
 
     #[test]
-    fn what_is_rare_is_told() {
-        let mut counts = [100; NAMES.len()];
-        counts[JUST] = 99;
-        let rare = Outputs::of(counts).rare(100);
-        assert_eq!(rare, ["writings: written into just the room needed came only 99 times, 100 are wanted"]);
-    }
-
-    #[test]
     fn generated_writings_show_everything_often_enough() {
         let seed = 1;
-        let mut outputs = Outputs::default();
+        let mut outputs = outputs();
         for item in (0..2_000).flat_map(|turn| generated_items(seed, turn)) {
             match &item.ask {
-                Ask::Write(writing) => outputs.add(writing, &lay(&writing.letter.outgoing, &writing.sending.buffer)),
-                Ask::Again(_) => outputs.add_again(),
+                Ask::Write(writing) => outputs.add(things(writing, &lay(&writing.letter.outgoing, &writing.sending.buffer))),
+                Ask::Again(_) => outputs.add(AGAIN),
                 _ => {}
             }
         }

@@ -1,5 +1,6 @@
 //! Holds the second writer against what is known, and the face against the second writer.
 
+use crate::outputs;
 use crate::tally::Tally;
 use crate::words::{known_by, other_bytes, reason_words};
 use second::desk::FINE;
@@ -34,7 +35,7 @@ fn count(writing: &Writing, sent: &Sent, tally: &mut Tally) {
     if sent.reason == FINE || !sent.buffer.is_empty() {
         tally.writings.add(sent.reason);
     }
-    tally.outputs.add(writing, sent);
+    tally.outputs.add(outputs::things(writing, sent));
 }
 
 /// The fact that an output is longer than its message.

@@ -1,7 +1,7 @@
 //! What is counted of second 60: generated feeds with a message that was accepted with it, and those with one that was refused for it.
 //! It is looked for in the bytes, by its look alone, so that the judge's own reading of epochs is not asked.
 
-use crate::words::{counts_words, rare};
+use crate::shown::Shown;
 use second::judge::{is_heading, judge, Answer, Feed, Kind, Place, Reason, Row};
 
 /// What a feed can be counted as, in the words of the report.
@@ -20,39 +20,14 @@ const MIXED_ACCEPTED: usize = 4;
 const MIXED_REFUSED: usize = 5;
 
 /// How many feeds were counted as each.
-#[derive(Default)]
-pub struct Sixties {
-    counts: [usize; NAMES.len()],
-}
+pub type Sixties = Shown<{ NAMES.len() }>;
 
-impl Sixties {
-    /// Counts a feed by the answers that its messages got, and as each thing once at most.
-    pub fn add<'f>(&mut self, bytes: &[u8], feed: &Feed, answers: impl Iterator<Item = (u64, &'f Answer)>) {
-        let mut shown = [false; NAMES.len()];
-        answers.flat_map(|(message, answer)| things(bytes, feed, message, answer)).for_each(|thing| shown[thing] = true);
-        self.counts.iter_mut().zip(shown).for_each(|(count, is_shown)| *count += usize::from(is_shown));
-    }
-
-    #[cfg(test)]
-    pub fn of(counts: [usize; NAMES.len()]) -> Sixties {
-        Sixties { counts }
-    }
-
-    fn named(&self) -> impl Iterator<Item = (&'static str, usize)> + '_ {
-        NAMES.into_iter().zip(self.counts)
-    }
-
-    pub fn rare(&self, floor: usize) -> Vec<String> {
-        rare("second 60", self.named(), floor)
-    }
-
-    pub fn words(&self) -> String {
-        format!("generated feeds with second 60: {}", counts_words(self.named()))
-    }
+pub fn sixties() -> Sixties {
+    Shown::new("generated feeds with second 60", "second 60", NAMES)
 }
 
 /// What a message shows by the answer that it got.
-fn things(bytes: &[u8], feed: &Feed, message: u64, answer: &Answer) -> Vec<usize> {
+pub fn things(bytes: &[u8], feed: &Feed, message: u64, answer: &Answer) -> Vec<usize> {
     let Some(kind) = kind_of(bytes, feed, message) else { return Vec::new() };
     let (plain, mixed, is_mixed) = match answer {
         Answer::Accepted(rows) if is_told(bytes, rows) => (ACCEPTED, MIXED_ACCEPTED, is_mixed(bytes, rows)),
@@ -121,7 +96,7 @@ fn is_after_another(bytes: &[u8], place: Place) -> bool {
 #[cfg(test)]
 mod tests {
     use super::*;
-    use crate::items::{generated_items, Ask};
+    use crate::shown;
     use std::collections::BTreeMap;
 
     const HEAD: &str = "CCSDS_OEM_VERS=1.0\nCREATION_DATE=2000-001T00:00:00\nORIGINATOR=A\n";
@@ -134,11 +109,7 @@ mod tests {
     }
 
     fn counted(feed: &str) -> [usize; 6] {
-        let mut sixties = Sixties::default();
-        let lines = Feed::new(feed.as_bytes());
-        let answers: Vec<Answer> = (1..=lines.headings().unwrap() as u64).map(|message| lines.judge(message)).collect();
-        sixties.add(feed.as_bytes(), &lines, (1..).zip(&answers));
-        sixties.counts
+        shown::counted(sixties(), feed, things)
     }
 
     #[test]
@@ -183,36 +154,24 @@ mod tests {
         assert_eq!(two(("TAI", "23:59:60"), ("UTC", "23:59:60")), [0, 0, 0, 1, 0, 0]);
     }
 
-    #[test]
-    fn what_is_rare_is_told() {
-        let sixties = Sixties::of([100, 99, 100, 100, 0, 100]);
-        let rare = sixties.rare(100);
-        assert_eq!(rare.len(), 2);
-        assert_eq!(rare[0], "second 60: OEM accepted with it came only 99 times, 100 are wanted");
-        assert!(sixties.rare(0).is_empty());
-    }
-
     /// Every code with an epoch at second 60 in accepted messages of some generated feeds, and how often.
     fn codes_accepted(seed: u64, feeds: usize, sixties: &mut Sixties) -> BTreeMap<(u16, bool), usize> {
         let mut codes = BTreeMap::new();
-        for item in (0..feeds).flat_map(|turn| generated_items(seed, turn).into_iter().take(1)) {
-            let Ask::Judge(asked) = &item.ask else { panic!("the first item is a judgement") };
-            let feed = Feed::new(&asked.feed);
-            let answers: Vec<Answer> = asked.messages.iter().map(|message| feed.judge(*message)).collect();
-            sixties.add(&asked.feed, &feed, asked.messages.iter().copied().zip(&answers));
-            for (message, answer) in asked.messages.iter().zip(&answers) {
+        shown::each_generated(seed, feeds, |bytes, feed, messages, answers| {
+            sixties.add_feed(bytes, feed, messages, answers, things);
+            for (message, answer) in messages.iter().zip(answers) {
                 let Answer::Accepted(rows) = answer else { continue };
-                let is_oem = kind_of(&asked.feed, &feed, *message) == Some(Kind::Oem);
-                rows.iter().filter(|row| shows_it(&asked.feed, row)).for_each(|row| *codes.entry((row.code, is_oem)).or_insert(0) += 1);
+                let is_oem = kind_of(bytes, feed, *message) == Some(Kind::Oem);
+                rows.iter().filter(|row| shows_it(bytes, row)).for_each(|row| *codes.entry((row.code, is_oem)).or_insert(0) += 1);
             }
-        }
+        });
         codes
     }
 
     #[test]
     fn generated_feeds_bring_second_60_often_enough() {
         let seed = 1;
-        let mut sixties = Sixties::default();
+        let mut sixties = sixties();
         let codes = codes_accepted(seed, 2_000, &mut sixties);
         println!("seed {seed}: {}; epochs by code and by being in an OEM: {codes:?}", sixties.words());
         // A tenth of the feeds of a whole run, and twice the floor, so that a run has some to spare.

@@ -1,14 +1,15 @@
 //! What has been counted, what it says at the end, and what is kept of a difference.
 
+use crate::degrees::{degrees, Degrees};
 use crate::items::Item;
-use crate::outputs::Outputs;
-use crate::sixty::Sixties;
+use crate::outputs::{outputs, Outputs};
+use crate::sixty::{sixties, Sixties};
 use crate::words::{counts_words, rare};
 use second::desk::reason_name;
 use std::ops::RangeInclusive;
 use std::path::{Path, PathBuf};
 
-/// Each 20,000 generated feeds must bring every reason, every case of second 60 and everything that writings can show, this often.
+/// Each 20,000 generated feeds must bring every reason, every case of second 60 and of degrees, and everything that writings can show, this often.
 const FLOOR: usize = 100;
 pub const FLOOR_FEEDS: usize = 20_000;
 
@@ -43,7 +44,7 @@ impl Counts {
     }
 }
 
-/// What has been counted so far; the reasons, the second 60 and the outputs are those of generated feeds alone.
+/// What has been counted so far; the reasons, the second 60, the degrees and the outputs are those of generated feeds alone.
 pub struct Tally {
     pub feeds: usize,
     pub answers: usize,
@@ -53,6 +54,7 @@ pub struct Tally {
     pub tickets: Counts,
     pub writings: Counts,
     pub sixties: Sixties,
+    pub degrees: Degrees,
     pub outputs: Outputs,
     save: PathBuf,
 }
@@ -67,8 +69,9 @@ impl Tally {
             loads: Counts::new("generated loads", "accepted", 1..=13),
             tickets: Counts::new("generated tickets", "answered", 14..=16),
             writings: Counts::new("generated writings", "written", 1..=12),
-            sixties: Sixties::default(),
-            outputs: Outputs::default(),
+            sixties: sixties(),
+            degrees: degrees(),
+            outputs: outputs(),
             save: save_directory(),
         }
     }
@@ -78,7 +81,8 @@ impl Tally {
         let floor = if generated < FLOOR_FEEDS { 0 } else { FLOOR * (generated / FLOOR_FEEDS) };
         let kinds = [&self.judged, &self.loads, &self.tickets, &self.writings];
         let of_kinds = kinds.iter().flat_map(|counts| counts.rare(floor));
-        let rare: Vec<String> = of_kinds.chain(self.sixties.rare(floor)).chain(self.outputs.rare(floor)).collect();
+        let of_feeds = self.sixties.rare(floor).into_iter().chain(self.degrees.rare(floor));
+        let rare: Vec<String> = of_kinds.chain(of_feeds).chain(self.outputs.rare(floor)).collect();
         // A run that stopped early has not had the time to bring everything.
         let too_rare = self.differences == 0 && !rare.is_empty();
         if too_rare {
@@ -86,6 +90,7 @@ impl Tally {
         }
         kinds.iter().for_each(|counts| println!("{}", counts.words()));
         println!("{}", self.sixties.words());
+        println!("{}", self.degrees.words());
         println!("{}", self.outputs.words());
         println!("{} feeds, {} answers, {} differences", self.feeds, self.answers, self.differences);
         self.differences == 0 && !too_rare
@@ -135,8 +140,9 @@ mod tests {
         for counts in [&mut tally.judged, &mut tally.loads, &mut tally.tickets, &mut tally.writings] {
             counts.reasons.clone().for_each(|reason| (0..FLOOR).for_each(|_| counts.add(reason)));
         }
-        tally.sixties = Sixties::of([FLOOR; 6]);
-        tally.outputs = Outputs::of([FLOOR; 17]);
+        tally.sixties.counts = [FLOOR; 6];
+        tally.degrees.counts = [FLOOR; 4];
+        tally.outputs.counts = [FLOOR; 17];
         tally
     }
 
@@ -148,11 +154,6 @@ mod tests {
         assert!(tally.report(FLOOR_FEEDS - 1));
     }
 
-    /// The floor everywhere but in one place.
-    fn few<const N: usize>(at: usize) -> [usize; N] {
-        std::array::from_fn(|place| if place == at { FLOOR - 1 } else { FLOOR })
-    }
-
     #[test]
     fn a_run_that_has_everything_stands() {
         assert!(whole().report(FLOOR_FEEDS));
@@ -161,12 +162,17 @@ mod tests {
 
     #[test]
     fn a_run_that_lacks_a_case_of_second_60_fails() {
-        (0..6).for_each(|at| fails(|tally| tally.sixties = Sixties::of(few(at))));
+        (0..6).for_each(|at| fails(|tally| tally.sixties.counts[at] -= 1));
+    }
+
+    #[test]
+    fn a_run_that_lacks_a_case_of_degrees_fails() {
+        (0..4).for_each(|at| fails(|tally| tally.degrees.counts[at] -= 1));
     }
 
     #[test]
     fn a_run_that_lacks_something_that_writings_show_fails() {
-        (0..17).for_each(|at| fails(|tally| tally.outputs = Outputs::of(few(at))));
+        (0..17).for_each(|at| fails(|tally| tally.outputs.counts[at] -= 1));
     }
 
     #[test]
