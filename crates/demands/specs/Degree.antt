@@ -49,7 +49,7 @@ Standing =
     × (judgeOf (oemWith []) 1 ≡ Accepted 21)
     × (judgeOf (oemWith (method ++ remark ++ degree)) 1 ≡ Accepted 24)
 
--- the degree alone is ORDER at its line, INTERPOLATION alone at META_STOP's; a comment between serves for neither
+-- the degree alone is ORDER at its line, INTERPOLATION alone at META_STOP's; a comment makes up for neither
 abbrev pub Alone : Type 0
 Alone =
     (judgeOf (oemWith degree) 1 ≡ Refused Reasons.Order 14)
