@@ -1,4 +1,4 @@
-/* The header, compiled as C and as C++, with every name of it used once; and a few answers that must not change. */
+/* The header, compiled as C and as C++: every function called, every struct's size held, and a few answers that must not change. */
 #include "odm.h"
 
 #include <stdio.h>
@@ -59,6 +59,40 @@ static void same_written(size_t message, size_t room, uint32_t reason, uint32_t 
     same("bytes written or kept", kept, sizeof buffer);
 }
 
+/* The desk's answers: 21 rows, of which row 4 is ORIGINATOR. */
+static void check_desk(void) {
+    const uint8_t *feed = (const uint8_t *)two;
+    size_t length = strlen(two), start = (size_t)(strstr(two, "ORIGINATOR = A") - two) + strlen("ORIGINATOR = ");
+    uint8_t table[BUFFER];
+    odm_placed placed = odm_place(0, 0, feed, length, 1, table, 210);
+    odm_row row = odm_read(placed.load, placed.count, placed.load, 4, feed, length, table, 210);
+    odm_placed refused = odm_place(placed.load, placed.count, feed, length, 2, table, 210);
+    odm_placed spent = odm_place(UINT32_MAX, 21, feed, length, 2, table, 210);
+
+    same("reason of the load", placed.reason, ODM_OK);
+    same("load number", placed.load, 1);
+    same("row count", placed.count, 21);
+    same("reason of the row", row.reason, ODM_OK);
+    same("code of the row", row.code, 3);
+    same("group of the row", row.group, 0);
+    same("line of the row", row.line, 6);
+    same("start of the row", row.start, start);
+    same("length of the row", row.length, 1);
+    same("reason of the load refused", refused.reason, ODM_VALUE);
+    same("line of the load refused", refused.line, 2);
+    same("load number after it", refused.load, 2);
+    same("row count after it", refused.count, 0);
+    same("reason for too short a table", odm_place(0, 0, feed, length, 1, table, 209).reason, ODM_NO_ROOM);
+    same("reason at the top load number", spent.reason, ODM_SPENT);
+    same("load number after it", spent.load, UINT32_MAX);
+    same("row count after it", spent.count, 21);
+    same("reason for an earlier ticket", odm_read(refused.load, refused.count, placed.load, 4, feed, length, table, 210).reason, ODM_GONE);
+    same("reason for a row too high", odm_read(1, 21, 1, 21, feed, length, table, 210).reason, ODM_NO_ROW);
+    same("reason for a feed cut short", odm_read(1, 21, 1, 4, feed, start, table, 210).reason, ODM_ASTRAY);
+    same("size of odm_placed", sizeof placed, 16);
+    same("size of odm_row", sizeof row, 24);
+}
+
 static void check_writing(void) {
     same_written(1, BUFFER, ODM_OK, 0, plain);
     same_written(1, strlen(plain), ODM_OK, 0, plain);
@@ -76,6 +110,7 @@ static void check_writing(void) {
 
 int main(void) {
     check_judging();
+    check_desk();
     check_writing();
     if (failures > 0) return 1;
     puts("the header's names answer as they should");
