@@ -8,7 +8,7 @@ use Rattle.lines.specs.declared.Sides.{Sides}
 use Rattle.grammar.specs.declared.Form.the-variants.{Oem}
 use Rattle.step.specs.Step.{wrong, part, assignOf, metaOf}
 use Rattle.step.specs.declared.State.{State}
-use Rattle.step.specs.declared.Reason.the-variants as Reasons
+use Rattle.reasons.specs.declared.Reason.the-variants as Reasons
 use Rattle.judge.specs.Message.{judgeOf}
 use Rattle.judge.specs.declared.Judged.the-variants.{Accepted, Refused}
 use Rattle.demands.specs.Sixty.{headOf, untilStop, fromMetaStop, plain}

@@ -7,7 +7,7 @@ use lib.ListN.{length, drop}
 use Rattle.lines.specs.Feed.{lines, linesBefore, Starts}
 use Rattle.judge.specs.Message.{headings, feedLimit, judgeOf, rowsOf}
 use Rattle.words.specs.Words.{bytes}
-use Rattle.step.specs.declared.Reason.the-variants as Reasons
+use Rattle.reasons.specs.declared.Reason.the-variants as Reasons
 use Rattle.judge.specs.declared.Judged.the-variants.{Accepted, Refused}
 use Rattle.judge.specs.declared.Row.{Row}
 use Rattle.rows.specs.Table.{tableBytes}

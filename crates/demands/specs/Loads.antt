@@ -4,8 +4,8 @@ use Prim.Native.Nat.{ℕ, _+_, _*_, _≤_, _<_}
 use mathlib.Core.Path.{_≡_}
 use mathlib.Core.List.{List, [], _∷_, _++_}
 use lib.ListN.{length, take, drop, getD}
-use Rattle.step.specs.declared.Reason.{Reason}
-use Rattle.step.specs.declared.Reason.the-variants as Reasons
+use Rattle.reasons.specs.declared.Reason.{Reason}
+use Rattle.reasons.specs.declared.Reason.the-variants as Reasons
 use Rattle.judge.specs.Message.{judgeOf, rowsOf}
 use Rattle.judge.specs.declared.Judged.the-variants.{Accepted, Refused}
 use Rattle.judge.specs.declared.Row.{Row}

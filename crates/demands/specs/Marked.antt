@@ -15,7 +15,7 @@ use Rattle.judge.specs.declared.Judged.the-variants.{Accepted, Refused}
 use Rattle.judge.specs.declared.Row.{Row}
 use Rattle.desk.specs.Loads.{loadOf}
 use Rattle.desk.specs.declared.Desk.{Desk}
-use Rattle.step.specs.declared.Reason.the-variants as Reasons
+use Rattle.reasons.specs.declared.Reason.the-variants as Reasons
 use Rattle.demands.specs.Sixty.{epochStands, Sixty}
 use Rattle.demands.specs.Degree.{Degree}
 

@@ -16,7 +16,7 @@ use Rattle.epochs.specs.declared.Epoch.{Epoch}
 use Rattle.epochs.specs.declared.Epoch.the-variants.{At, Bad}
 use Rattle.step.specs.Step.{wrong, fitsHere, part, dataOf, pastWhole, timeOf}
 use Rattle.step.specs.declared.State.{State}
-use Rattle.step.specs.declared.Reason.the-variants as Reasons
+use Rattle.reasons.specs.declared.Reason.the-variants as Reasons
 use Rattle.judge.specs.Message.{judgeOf}
 use Rattle.judge.specs.declared.Judged.the-variants.{Accepted, Refused}
 

@@ -7,7 +7,7 @@ use Prim.Native.Nat.{ℕ, _+_, _≤_, _<_}
 use lib.Dec.{eqb, ltb}
 use lib.ListN.{length}
 use borrow.Author.Tests.{eq-eqb, ne-eqb, lt-ltb, le-ltb}
-use Rattle.step.specs.declared.Reason.the-variants as Reasons
+use Rattle.reasons.specs.declared.Reason.the-variants as Reasons
 use Rattle.judge.specs.declared.Row.{Row}
 use Rattle.desk.specs.Loads.{topLoad, deskAfter, loadOf, readOf}
 use Rattle.rows.specs.Place.{roomFor, rowHeard}

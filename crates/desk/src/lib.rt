@@ -1,7 +1,7 @@
 // The desk: loads a message into a lent table of bytes, and speaks a row only to a ticket of the present load.
 use judge::Judged;
+use reasons::Reason;
 use rows::Heard;
-use step::Reason;
 ghost use mathlib.Core.Path.{_≡_};
 ghost use Prim.Native.Nat.{_<_};
 ghost use lib.ListN.{length};

@@ -17,8 +17,8 @@ use Rattle.grammar.specs.declared.Form.{Form}
 use Rattle.step.specs.Step.{noRow, freshState, stepOf}
 use Rattle.step.specs.declared.State.{State}
 use Rattle.step.specs.declared.Step.{Step}
-use Rattle.step.specs.declared.Reason.{Reason}
-use Rattle.step.specs.declared.Reason.the-variants as Reasons
+use Rattle.reasons.specs.declared.Reason.{Reason}
+use Rattle.reasons.specs.declared.Reason.the-variants as Reasons
 use Rattle.step.specs.declared.Verdict.{Verdict}
 use Rattle.step.specs.declared.Verdict.the-variants.{Right, Wrong}
 use Rattle.judge.specs.declared.Found.the-variants.{Place, Missing}

@@ -15,7 +15,7 @@ use Rattle.grammar.specs.Order.{nextOf}
 use Rattle.grammar.specs.declared.Form.{Form}
 use Rattle.grammar.specs.declared.Form.the-variants.{Opm, Oem}
 use Rattle.step.specs.Step.{noRow, freshState, stepOf}
-use Rattle.step.specs.declared.Reason.the-variants as Reasons
+use Rattle.reasons.specs.declared.Reason.the-variants as Reasons
 use Rattle.step.specs.declared.Verdict.{Verdict}
 use Rattle.step.specs.declared.Verdict.the-variants.{Right, Wrong}
 use Rattle.judge.specs.declared.Counted.{Counted}

@@ -1,7 +1,7 @@
 // A feed's messages found and judged, line by line.
 use grammar::Form;
 use lines::Heading;
-use step::Reason;
+use reasons::Reason;
 use step::State;
 use step::Step;
 use step::Verdict;

@@ -1,7 +1,7 @@
 -- The numbers that the C face hands over: reason 0 means accepted or answered. On a refusal reason and line are its own, a desk's numbers are the next
 -- desk's, and every other field is 0.
 -- Assumes nothing.
-use Rattle.step.specs.Reasons.{reasonNo}
+use Rattle.reasons.specs.Reasons.{reasonNo}
 use Rattle.judge.specs.declared.Judged.{Judged}
 use Rattle.judge.specs.declared.Judged.the-variants.{Accepted, Refused}
 use Rattle.judge.specs.declared.Counted.{Counted}

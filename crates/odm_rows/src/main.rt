@@ -6,8 +6,8 @@ use judge::Counted;
 use judge::Judged;
 use libc::STDIN_FILENO;
 use libc::STDOUT_FILENO;
+use reasons::Reason;
 use rows::Heard;
-use step::Reason;
 ghost use mathlib.Core.Path.{_≡_};
 ghost use lib.ListN.{length};
 

@@ -7,7 +7,7 @@ use Prim.Native.Nat.{ℕ, _+_, _*_, _≤_, _<_}
 use lib.Dec.{ltb}
 use lib.ListN.{length}
 use borrow.Author.Tests.{lt-ltb, le-ltb, ltb-false}
-use Rattle.step.specs.declared.Reason.the-variants as Reasons
+use Rattle.reasons.specs.declared.Reason.the-variants as Reasons
 use Rattle.judge.specs.declared.Row.{Row}
 use Rattle.rows.specs.Table.{rowAt}
 use Rattle.rows.specs.Place.{spanOf, rowHeard}

@@ -11,7 +11,7 @@ use Rattle.lines.specs.Text.{noSpan}
 use Rattle.grammar.specs.declared.Form.{Form}
 use Rattle.step.specs.Step.{freshState}
 use Rattle.step.specs.declared.Step.{Step}
-use Rattle.step.specs.declared.Reason.the-variants as Reasons
+use Rattle.reasons.specs.declared.Reason.the-variants as Reasons
 use Rattle.judge.specs.Message.{judgeTexts, texts, upTo}
 use Rattle.judge.specs.declared.Judged.{Judged}
 use Rattle.judge.specs.declared.Judged.the-variants.{Accepted, Refused}

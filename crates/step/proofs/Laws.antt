@@ -26,7 +26,7 @@ use Rattle.grammar.specs.declared.Form.{Form}
 use Rattle.grammar.specs.declared.Form.the-variants.{Opm, Oem}
 use Rattle.step.specs.Step.{part, Inside, SevenInside, areNumbers, wordLen, numberOf, oneRow, past, pastComment, wrong, fieldsOf, dataOf}
 use Rattle.step.specs.declared.State.{State}
-use Rattle.step.specs.declared.Reason.the-variants as Reasons
+use Rattle.reasons.specs.declared.Reason.the-variants as Reasons
 
 -- ---- fields that are numbers, seen from a place in the list of spans
 

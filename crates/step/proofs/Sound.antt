@@ -35,8 +35,8 @@ use Rattle.values.specs.Number.{isNumber, isText, isVersion, isInteger}
 use Rattle.step.specs.Step.{wrong, noRow, oneRow, sevenRows, fitsHere, sixtyStands, part, Inside, SevenInside, areNumbers, isTimely, dataAt, dataOf, fieldsOf, wholeOf, wordLen, numberOf, pastTime, isEarly, timeOf, valueOf, assignOf, metaCode, metaOf, plainOf, pastComment, uncommentedOf, filledOf, stepOf}
 use Rattle.step.specs.declared.State.{State}
 use Rattle.step.specs.declared.Step.{Step}
-use Rattle.step.specs.declared.Reason.{Reason}
-use Rattle.step.specs.declared.Reason.the-variants as Reasons
+use Rattle.reasons.specs.declared.Reason.{Reason}
+use Rattle.reasons.specs.declared.Reason.the-variants as Reasons
 use Rattle.step.proofs.Laws.{part-length, word-le, trim-inside, sides-inside, fields-inside}
 
 pub data Good (s : List ℕ) : Step → Type 0 where

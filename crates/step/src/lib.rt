@@ -11,32 +11,12 @@ use lines::Comment;
 use lines::Fields;
 use lines::Sides;
 use lines::Span;
+use reasons::Reason;
 use words::byte_at;
 use words::is_word;
 ghost use mathlib.Core.Path.{_≡_};
 ghost use lib.ListN.{drop};
-ghost use Rattle.step.specs.Reasons.{reasonNo};
 ghost use Rattle.step.specs.Step.{wrong, noRow, oneRow, freshState, past, fitsHere, sixtyStands, Inside, SevenInside, isTimely, areNumbers, pastData, dataAt, dataOf, fieldsOf, pastWhole, wholeOf, numberOf, pastTime, isEarly, timeOf, valueOf, assignOf, metaCode, metaOf, plainOf, pastComment, uncommentedOf, filledOf, stepOf};
-
-// Why a load or a ticket is refused, in the order of document 01's numbers.
-pub enum Reason {
-    FeedLong,
-    NoMessage,
-    Long,
-    Byte,
-    Form,
-    Keyword,
-    Order,
-    Value,
-    Unit,
-    TimeOrder,
-    Short,
-    NoRoom,
-    Spent,
-    Gone,
-    NoRow,
-    Astray,
-}
 
 pub enum Verdict {
     Right,
@@ -61,30 +41,6 @@ pub struct Step {
     pub code: u16,
     pub count: usize,
     pub spans: [Span; 7],
-}
-
-// Document 01's number of a reason.
-pub fn reason_number(reason: Reason) -> u32
-    ensures { λ r. ⌜ r ≡ reasonNo reason ⌝ }
-{
-    match reason {
-        Reason::FeedLong => 1,
-        Reason::NoMessage => 2,
-        Reason::Long => 3,
-        Reason::Byte => 4,
-        Reason::Form => 5,
-        Reason::Keyword => 6,
-        Reason::Order => 7,
-        Reason::Value => 8,
-        Reason::Unit => 9,
-        Reason::TimeOrder => 10,
-        Reason::Short => 11,
-        Reason::NoRoom => 12,
-        Reason::Spent => 13,
-        Reason::Gone => 14,
-        Reason::NoRow => 15,
-        Reason::Astray => 16,
-    }
 }
 
 // The code of a META line, 0 where the text is none.

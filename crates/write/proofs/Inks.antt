@@ -9,7 +9,7 @@ use lib.ListN.{length, length-append}
 use lib.Seq.{length-sets, sets-eq}
 use borrow.Author.Tests.{lt-ltb, le-ltb}
 use Rattle.words.proofs.Laws.{sets-more}
-use Rattle.step.specs.declared.Reason.the-variants as Reasons
+use Rattle.reasons.specs.declared.Reason.the-variants as Reasons
 use Rattle.write.specs.Written.{fitted, bufferAfter}
 use Rattle.write.specs.Inner.{inked, Room}
 use Rattle.write.specs.declared.Written.the-variants.{Whole, Refused}

@@ -32,8 +32,8 @@ use Rattle.values.specs.Number.{isNumber, isText, isVersion, isInteger}
 use Rattle.step.specs.Step.{wrong, noRow, oneRow, sevenRows, past, pastWhole, pastTime, fitsHere, sixtyStands, part, areNumbers, isTimely, pastData, dataAt, dataOf, fieldsOf, wordLen, wholeOf, numberOf, isEarly, timeOf, valueOf, assignOf, metaCode, metaOf, plainOf, pastComment, uncommentedOf, filledOf, stepOf}
 use Rattle.step.specs.declared.State.{State}
 use Rattle.step.specs.declared.Step.{Step}
-use Rattle.step.specs.declared.Reason.{Reason}
-use Rattle.step.specs.declared.Reason.the-variants as Reasons
+use Rattle.reasons.specs.declared.Reason.{Reason}
+use Rattle.reasons.specs.declared.Reason.the-variants as Reasons
 use Rattle.step.specs.declared.Verdict.the-variants.{Right, Wrong}
 
 -- an offence is not right

@@ -1,8 +1,8 @@
 -- The reasons' numbers, by document 01's table.
 -- Assumes nothing.
 use Prim.Native.Nat.{ℕ}
-use Rattle.step.specs.declared.Reason.{Reason}
-use Rattle.step.specs.declared.Reason.the-variants.{FeedLong, NoMessage, Long, Byte, Form, Keyword, Order, Value, Unit, TimeOrder, Short, NoRoom, Spent, Gone, NoRow, Astray}
+use Rattle.reasons.specs.declared.Reason.{Reason}
+use Rattle.reasons.specs.declared.Reason.the-variants.{FeedLong, NoMessage, Long, Byte, Form, Keyword, Order, Value, Unit, TimeOrder, Short, NoRoom, Spent, Gone, NoRow, Astray}
 
 abbrev pub reasonNo : Reason → ℕ
 reasonNo FeedLong = 1
