@@ -108,10 +108,33 @@ static void check_writing(void) {
     same("place of its length", offsetof(odm_written, length), 8);
 }
 
+/* A text rounded: its reason, and its units with their sign. */
+static void same_rounded(const char *text, uint32_t decimals, uint32_t reason, long units) {
+    odm_rounded rounded = odm_round((const uint8_t *)text, strlen(text), decimals);
+    same("reason of the rounding", rounded.reason, reason);
+    same("units of the rounding", (unsigned long)rounded.units, (unsigned long)units);
+}
+
+static void check_rounding(void) {
+    same_rounded("-0.4", 0, ODM_OK, 0);
+    same_rounded("-2.5", 0, ODM_OK, -3);
+    same_rounded("-2.5", 1, ODM_OK, -25);
+    same_rounded("6.655E-1", 3, ODM_OK, 666);
+    same_rounded("-1.0E15", 0, ODM_OK, -1000000000000000);
+    same_rounded("-1.0E15", 1, ODM_TOO_BIG, 0);
+    same_rounded("1.5 [KM]", 6, ODM_VALUE, 0);
+    same_rounded("1.5", 7, ODM_PLACES, 0);
+    same("reason for an empty text", odm_round(NULL, 0, 0).reason, ODM_VALUE);
+    same("size of odm_rounded", sizeof(odm_rounded), 16);
+    same("place of its reason", offsetof(odm_rounded, reason), 0);
+    same("place of its units", offsetof(odm_rounded, units), 8);
+}
+
 int main(void) {
     check_judging();
     check_desk();
     check_writing();
+    check_rounding();
     if (failures > 0) return 1;
     puts("the header's names answer as they should");
     return 0;

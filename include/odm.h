@@ -3,8 +3,8 @@
  * A feed is bytes: at most 65,535, holding CCSDS OPM and OEM messages in keyword notation. Messages are numbered from 1, each from its
  * heading line to the next heading line or the end of the feed. Any bytes, any message number get an answer.
  *
- * No function keeps state, allocates, prints or needs to be set up. A null pointer with length 0 is an empty feed, table or buffer. Every function may be
- * called from any thread.
+ * No function keeps state, allocates, prints or needs to be set up. A null pointer with length 0 is an empty feed, table, buffer or text. Every function
+ * may be called from any thread.
  */
 #ifndef ODM_H
 #define ODM_H
@@ -34,7 +34,9 @@ enum {
     ODM_SPENT = 13,      /* the load number is at its top */
     ODM_GONE = 14,       /* the ticket's load number is not the desk's */
     ODM_NO_ROW = 15,     /* the row number is not below the desk's count */
-    ODM_ASTRAY = 16      /* the row is not wholly in the table, or its span not in the feed */
+    ODM_ASTRAY = 16,     /* the row is not wholly in the table, or its span not in the feed */
+    ODM_TOO_BIG = 17,    /* the rounded number is over 1,000,000,000,000,000 units, either way from zero */
+    ODM_PLACES = 18      /* more than six decimals are asked for */
 };
 
 /* How many messages a feed has. */
@@ -99,6 +101,19 @@ typedef struct {
 
 /* buffer_len is in bytes. */
 odm_written odm_write(const uint8_t *feed, size_t feed_len, size_t message, uint8_t *buffer, size_t buffer_len);
+
+/* A number's text as a whole number of units of a decimal place, rounded to nearest, halves away from zero: "-2.5" at 0 decimals is -3 units, at 1
+ * decimal -25. It is at most half a unit from the exact decimal that the text says. What rounds to 0 is 0, with no sign.
+ *
+ * The text is a number as a message has it, and nothing else: no blank before or after it, no unit. A row's value is lent as it stands in the feed.
+ */
+typedef struct {
+    uint32_t reason; /* ODM_OK; ODM_PLACES, checked first; ODM_VALUE: the text is no number; ODM_TOO_BIG: the units are over 1,000,000,000,000,000 */
+    int64_t units;   /* the units, with their sign; 0 on a refusal */
+} odm_rounded;
+
+/* decimals is from 0 to 6. */
+odm_rounded odm_round(const uint8_t *text, size_t text_len, uint32_t decimals);
 
 #ifdef __cplusplus
 }

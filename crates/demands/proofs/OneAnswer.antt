@@ -16,4 +16,5 @@ one-answer = (
   (λ d k f t. of-equation _),
   (λ f k b. of-equation _),
   (λ f k b. of-equation _),
+  (λ s decimals. of-equation _),
 )

@@ -17,6 +17,8 @@ use Rattle.rows.specs.declared.Heard.{Heard}
 use Rattle.write.specs.Plain.{plainOf}
 use Rattle.write.specs.Written.{writtenOf, bufferAfter}
 use Rattle.write.specs.declared.Written.{Written}
+use Rattle.rounding.specs.Say.{sayOf}
+use Rattle.rounding.specs.declared.Said.{Said}
 
 -- two answers that meet a promise are the same
 abbrev pub One : {A : Type 0} → (A → Type 0) → Type 0
@@ -32,3 +34,4 @@ OneAnswer =
     × ((d : Desk) (k : Ticket) (f t : List ℕ) → One {A = List ℕ} (λ v. v ≡ partHeard (readOf d k f t) f))
     × ((f : List ℕ) (k : ℕ) (b : List ℕ) → One {A = Written} (λ r. r ≡ writtenOf f k (length b)))
     × ((f : List ℕ) (k : ℕ) (b : List ℕ) → One {A = List ℕ} (λ c. c ≡ bufferAfter (writtenOf f k (length b)) (plainOf f k) b))
+    × ((s : List ℕ) (decimals : ℕ) → One {A = Said} (λ r. r ≡ sayOf s decimals))

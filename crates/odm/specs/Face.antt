@@ -7,6 +7,7 @@ use Rattle.judge.specs.declared.Judged.the-variants.{Accepted, Refused}
 use Rattle.judge.specs.declared.Counted.{Counted}
 use Rattle.judge.specs.declared.Counted.the-variants.{Headings, Barred}
 use Prim.Native.Nat.{ℕ}
+use lib.IntN.{pos}
 use Rattle.desk.specs.declared.Desk.{Desk}
 use Rattle.desk.specs.declared.Ticket.{Ticket}
 use Rattle.desk.specs.declared.Loaded.{Loaded}
@@ -14,11 +15,14 @@ use Rattle.rows.specs.declared.Heard.{Heard}
 use Rattle.rows.specs.declared.Heard.the-variants.{Spoken, Silent}
 use Rattle.write.specs.declared.Written.{Written}
 use Rattle.write.specs.declared.Written.the-variants as Writing
+use Rattle.rounding.specs.declared.Said.{Said}
+use Rattle.rounding.specs.declared.Said.the-variants as Saying
 use Rattle.odm.specs.declared.OdmCounted.{OdmCounted}
 use Rattle.odm.specs.declared.OdmPlaced.{OdmPlaced}
 use Rattle.odm.specs.declared.OdmRow.{OdmRow}
 use Rattle.odm.specs.declared.OdmJudged.{OdmJudged}
 use Rattle.odm.specs.declared.OdmWritten.{OdmWritten}
+use Rattle.odm.specs.declared.OdmRounded.{OdmRounded}
 
 abbrev pub countedNos : Counted → OdmCounted
 countedNos (Headings n) = record { reason = 0; count = n }
@@ -49,3 +53,7 @@ rowNos (Silent r) = record { reason = reasonNo r; code = 0; group = 0; line = 0;
 abbrev pub writtenNos : Written → OdmWritten
 writtenNos (Writing.Whole n) = record { reason = 0; line = 0; length = n }
 writtenNos (Writing.Refused r l) = record { reason = reasonNo r; line = l; length = 0 }
+
+abbrev pub roundedNos : Said → OdmRounded
+roundedNos (Saying.Units z) = record { reason = 0; units = z }
+roundedNos (Saying.Refused r) = record { reason = reasonNo r; units = pos 0 }

@@ -6,15 +6,17 @@ use desk::Ticket;
 use judge::Counted;
 use judge::Judged;
 use reasons::reason_number;
+use rounding::Said;
 use rows::Heard;
 use write::Written;
 ghost use mathlib.Core.Path.{_≡_};
 ghost use Rattle.judge.specs.Message.{countOf, judgeOf};
 ghost use lib.ListN.{length};
 ghost use Rattle.desk.specs.Loads.{loadOf, loadTable, readOf};
+ghost use Rattle.rounding.specs.Say.{sayOf};
 ghost use Rattle.write.specs.Plain.{plainOf};
 ghost use Rattle.write.specs.Written.{writtenOf, bufferAfter};
-ghost use Rattle.odm.specs.Face.{countedNos, judgedNos, deskNos, ticketNos, placedNos, rowNos, writtenNos};
+ghost use Rattle.odm.specs.Face.{countedNos, judgedNos, deskNos, ticketNos, placedNos, rowNos, writtenNos, roundedNos};
 
 #[repr(C)]
 pub struct OdmCounted {
@@ -52,6 +54,12 @@ pub struct OdmWritten {
     pub reason: u32,
     pub line: u32,
     pub length: u32,
+}
+
+#[repr(C)]
+pub struct OdmRounded {
+    pub reason: u32,
+    pub units: i64,
 }
 
 // How many messages a feed has.
@@ -179,6 +187,20 @@ pub extern "C" fn odm_write(feed: &[u8], message: usize, buffer: &mut [u8]) -> O
             reason: reason_number(reason),
             line,
             length: 0,
+        },
+    }
+}
+
+// A number's text as whole units of a decimal place, rounded.
+#[no_mangle]
+pub extern "C" fn odm_round(text: &[u8], decimals: u32) -> OdmRounded
+    ensures { λ r. ⌜ r ≡ roundedNos (sayOf (now (text .entry)) decimals) ⌝ }
+{
+    match rounding::say_number(text, decimals) {
+        Said::Units(units) => OdmRounded { reason: 0, units },
+        Said::Refused(reason) => OdmRounded {
+            reason: reason_number(reason),
+            units: 0,
         },
     }
 }

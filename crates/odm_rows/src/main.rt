@@ -43,6 +43,8 @@ fn say_reason(reason: Reason) {
         Reason::Gone => say(b"GONE"),
         Reason::NoRow => say(b"NO_ROW"),
         Reason::Astray => say(b"ASTRAY"),
+        Reason::TooBig => say(b"TOO_BIG"),
+        Reason::Places => say(b"PLACES"),
     }
 }
 

@@ -1,8 +1,8 @@
-// Why something is refused, shared by the judge, the desk, the table and the tools.
+// Why something is refused: one list for the judge, the desk, the table and the tools.
 ghost use mathlib.Core.Path.{_≡_};
 ghost use Rattle.reasons.specs.Reasons.{reasonNo};
 
-// Why a load or a ticket is refused, in the order of document 01's numbers.
+// In the order of the documents' numbers: to Astray document 01's, from TooBig on document 02's.
 pub enum Reason {
     FeedLong,
     NoMessage,
@@ -20,9 +20,11 @@ pub enum Reason {
     Gone,
     NoRow,
     Astray,
+    TooBig,
+    Places,
 }
 
-// Document 01's number of a reason.
+// The documents' number of a reason.
 pub fn reason_number(reason: Reason) -> u32
     ensures { λ r. ⌜ r ≡ reasonNo reason ⌝ }
 {
@@ -43,5 +45,7 @@ pub fn reason_number(reason: Reason) -> u32
         Reason::Gone => 14,
         Reason::NoRow => 15,
         Reason::Astray => 16,
+        Reason::TooBig => 17,
+        Reason::Places => 18,
     }
 }

@@ -7,7 +7,7 @@ ghost use lib.ListN.{length};
 ghost use Rattle.values.specs.Number.{digits, signLen, isDigits, isExponent, endsNumber, afterWhole, isNumber, digitsFrom, integerTop, isInteger, isText, isVersion};
 
 // How many digits stand first.
-fn digits_of(text: &[u8]) -> usize
+pub fn digits_of(text: &[u8]) -> usize
     ensures { λ r. ⌜ r ≡ digits (now (text .entry)) ⌝ }
 {
     let mut i = 0;
@@ -25,7 +25,7 @@ fn digits_of(text: &[u8]) -> usize
 }
 
 // How many bytes the sign takes that stands first.
-fn sign_of(text: &[u8]) -> usize
+pub fn sign_of(text: &[u8]) -> usize
     ensures { λ r. ⌜ r ≡ signLen (now (text .entry)) ⌝ }
 {
     if text.len() == 0 {

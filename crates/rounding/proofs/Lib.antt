@@ -1,0 +1,5 @@
+pub mod Laws
+pub mod Rounds
+pub mod Numbers
+pub mod Nearest
+pub mod Marked

@@ -1,0 +1,4 @@
+pub mod Exact
+pub mod Say
+pub mod Nearest
+pub mod Marked
