@@ -14,6 +14,9 @@
  *
  * Write:  u32 kind (4), a feed as a block, u64 message number, a buffer as a block.
  * Answer: u32 reason, u32 line, u32 length, then every byte of the buffer.
+ *
+ * Say:    u32 kind (5), a text as a block, u32 decimals.
+ * Answer: u32 reason, u64 units, the bits of the signed number as they stand.
  */
 #define _DEFAULT_SOURCE
 #include <stddef.h>
@@ -26,7 +29,7 @@
 
 #include "odm.h"
 
-enum { JUDGE = 1, PLACE = 2, READ = 3, WRITE = 4, BUFFER = 1 << 16 };
+enum { JUDGE = 1, PLACE = 2, READ = 3, WRITE = 4, SAY = 5, BUFFER = 1 << 16 };
 
 static uint8_t in[BUFFER], out[BUFFER];
 static size_t in_at, in_end, out_end;
@@ -98,7 +101,7 @@ static void put_number(uint32_t number) {
     put_bytes(raw, 4);
 }
 
-/* A feed, a table or a buffer, lent to the product as the comparer sent it. */
+/* A feed, a table, a buffer or a text, lent to the product as the comparer sent it. */
 typedef struct {
     uint8_t *bytes;
     size_t length;
@@ -111,23 +114,23 @@ enum { FENCED = 1 << 22 };
 static uint8_t *fence(void) {
     size_t page = (size_t)sysconf(_SC_PAGESIZE);
     uint8_t *region = mmap(NULL, FENCED + page, PROT_READ | PROT_WRITE, MAP_PRIVATE | MAP_ANONYMOUS, -1, 0);
-    if (region == MAP_FAILED) refuse("no memory for a feed, a table or a buffer");
+    if (region == MAP_FAILED) refuse("no memory for a feed, a table, a buffer or a text");
     if (mprotect(region + FENCED, page, PROT_NONE) != 0) refuse("a page could not be fenced");
     return region + FENCED;
 }
 
-/* A feed, a table or a buffer against its own fence; a null pointer where it is empty. */
+/* A feed, a table, a buffer or a text against its own fence; a null pointer where it is empty. */
 static block take_block(uint8_t **end) {
     block taken = {NULL, take_u32()};
     if (taken.length == 0) return taken;
-    if (taken.length > FENCED) refuse("a feed, a table or a buffer is too long for this host");
+    if (taken.length > FENCED) refuse("a feed, a table, a buffer or a text is too long for this host");
     if (*end == NULL) *end = fence();
     taken.bytes = *end - taken.length;
     take(taken.bytes, taken.length);
     return taken;
 }
 
-static uint8_t *feed_end, *table_end, *buffer_end;
+static uint8_t *feed_end, *table_end, *buffer_end, *text_end;
 
 static void answer_judge(void) {
     block feed = take_block(&feed_end);
@@ -187,6 +190,16 @@ static void answer_write(void) {
     put_bytes(buffer.bytes, buffer.length);
 }
 
+static void answer_say(void) {
+    block text = take_block(&text_end);
+    uint32_t decimals = take_u32();
+    odm_rounded rounded = odm_round(text.bytes, text.length, decimals);
+    uint64_t units = (uint64_t)rounded.units;
+    put_number(rounded.reason);
+    put_number((uint32_t)units);
+    put_number((uint32_t)(units >> 32));
+}
+
 int main(void) {
     _Static_assert(sizeof(size_t) == 8, "message numbers are passed as 64 bits");
     while (in_at < in_end || fill()) {
@@ -199,6 +212,8 @@ int main(void) {
             answer_read();
         } else if (kind == WRITE) {
             answer_write();
+        } else if (kind == SAY) {
+            answer_say();
         } else {
             refuse("a request of an unknown kind");
         }

@@ -4,15 +4,17 @@
 use crate::judge::{judge, Answer, Reason, Row};
 use std::rc::Rc;
 
-/// What goes well has this number; the refusals are document 01's.
+/// What goes well has this number; the refusals are document 01's, the last two request (v)'s.
 pub const FINE: u32 = 0;
 pub const NO_ROOM: u32 = 12;
 pub const SPENT: u32 = 13;
 pub const GONE: u32 = 14;
 pub const NO_ROW: u32 = 15;
 pub const ASTRAY: u32 = 16;
+pub const TOO_BIG: u32 = 17;
+pub const PLACES: u32 = 18;
 
-/// Document 01's name for a reason, judging's own among them.
+/// The documents' name for a reason, judging's own among them.
 pub fn reason_name(number: u32) -> Option<&'static str> {
     match number {
         NO_ROOM => Some("NO_ROOM"),
@@ -20,6 +22,8 @@ pub fn reason_name(number: u32) -> Option<&'static str> {
         GONE => Some("GONE"),
         NO_ROW => Some("NO_ROW"),
         ASTRAY => Some("ASTRAY"),
+        TOO_BIG => Some("TOO_BIG"),
+        PLACES => Some("PLACES"),
         _ => Reason::of_number(number).map(Reason::name),
     }
 }
@@ -193,7 +197,7 @@ mod tests {
 
     #[test]
     fn every_reason_has_a_name() {
-        assert!((1..=16).all(|number| reason_name(number).is_some()));
-        assert!([0, 17, u32::MAX].into_iter().all(|number| reason_name(number).is_none()));
+        assert!((1..=18).all(|number| reason_name(number).is_some()));
+        assert!([0, 19, u32::MAX].into_iter().all(|number| reason_name(number).is_none()));
     }
 }

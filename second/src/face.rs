@@ -1,9 +1,10 @@
 //! Asks the product's C face, which runs as a child process, for its answers.
 //!
-//! There is a kind of request for each thing that is asked: judging, placing, reading and writing. Feeds, tables and buffers go over
+//! There is a kind of request for each thing that is asked: judging, placing, reading, writing and saying. Feeds, tables, buffers and texts go over
 //! whole, and so do the table and the buffer on their way back. `face.c` says byte by byte what a request and its answer are.
 
 use crate::desk::{Desk, Load, Reading};
+use crate::say::{Said, Saying};
 use crate::send::{Sending, Sent};
 use std::io::{BufReader, Read, Write};
 use std::process::{Child, ChildStdin, ChildStdout, Command, Stdio};
@@ -15,6 +16,7 @@ const JUDGE: u32 = 1;
 const PLACE: u32 = 2;
 const READ: u32 = 3;
 const WRITE: u32 = 4;
+const SAY: u32 = 5;
 
 /// What the face says of one message: reason, line and rows, as the C struct has them.
 #[derive(Clone, Copy, Debug, PartialEq, Eq)]
@@ -103,6 +105,14 @@ impl Face {
     pub fn next_sent(&mut self, sending: &Sending) -> Result<Sent, String> {
         let [reason, line, length] = self.numbers()?;
         Ok(Sent { reason, line, length, buffer: self.bytes(sending.buffer.len())? })
+    }
+
+    /// The next answer, for a request to say.
+    pub fn next_said(&mut self) -> Result<Said, String> {
+        let [reason] = self.numbers()?;
+        let mut units = [0; 8];
+        self.fill(&mut units)?;
+        Ok(Said { reason, units: i64::from_le_bytes(units) })
     }
 
     fn numbers<const N: usize>(&mut self) -> Result<[u32; N], String> {
@@ -204,6 +214,13 @@ pub fn add_write(batch: &mut Vec<u8>, sending: &Sending) {
     add_block(batch, &sending.buffer);
 }
 
+/// Adds a request to say a number to a batch.
+pub fn add_say(batch: &mut Vec<u8>, saying: &Saying) {
+    add_number(batch, SAY);
+    add_block(batch, &saying.text);
+    add_number(batch, saying.decimals);
+}
+
 fn add_number(batch: &mut Vec<u8>, number: u32) {
     batch.extend_from_slice(&number.to_le_bytes());
 }
@@ -260,6 +277,27 @@ mod tests {
         let feed = [2, 0, 0, 0, b'a', b'b'];
         let message = [7, 6, 0, 0, 0, 0, 0, 0];
         assert_eq!(batch, [&[4, 0, 0, 0][..], &feed, &message, &[2, 0, 0, 0, 9, 8]].concat());
+    }
+
+    #[test]
+    fn a_request_to_say_is_written_low_byte_first() {
+        let mut batch = Vec::new();
+        add_say(&mut batch, &Saying { text: b"-0.4".to_vec(), decimals: 0x0102_0304 });
+        assert_eq!(batch, [&[5, 0, 0, 0, 4, 0, 0, 0][..], b"-0.4", &[4, 3, 2, 1]].concat());
+        batch.clear();
+        add_say(&mut batch, &Saying { text: Vec::new(), decimals: 6 });
+        assert_eq!(batch, [5, 0, 0, 0, 0, 0, 0, 0, 6, 0, 0, 0]);
+    }
+
+    #[test]
+    fn what_is_said_is_read_low_byte_first() {
+        // This face says what it hears.
+        let mut face = Face::start(&["cat".to_string()]).expect("started");
+        let minus_two = [254, 255, 255, 255, 255, 255, 255, 255];
+        face.send([&[18, 1, 0, 0][..], &[2, 1, 0, 0, 0, 0, 0, 64], &[0; 4], &minus_two].concat());
+        assert_eq!(face.next_said(), Ok(Said { reason: 274, units: (1 << 62) + 258 }));
+        assert_eq!(face.next_said(), Ok(Said { reason: 0, units: -2 }));
+        assert_eq!(face.finish(), Ok(()));
     }
 
     #[test]

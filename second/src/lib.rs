@@ -1,4 +1,5 @@
-//! The second program: a judge, a desk and a writer made from documents 01 and 02 alone, and what the comparer needs to run them beside the product.
+//! The second program: a judge, a desk, a writer and a sayer made from documents 01 and 02 alone, and what the comparer needs to run them beside
+//! the product.
 
 pub mod cases;
 pub mod clock;
@@ -8,6 +9,10 @@ pub mod face;
 pub mod harm;
 pub mod judge;
 pub mod make;
+pub mod natural;
+pub mod say;
+pub mod sayings;
 pub mod send;
 pub mod session;
+pub mod weigh;
 pub mod writings;

@@ -1,16 +1,18 @@
-//! Fixed cases: the figures of document 002, and every edge of document 01, each with its answer written by hand.
+//! Fixed cases: the figures of document 002, and every edge of documents 01 and 02, each with its answer written by hand.
 
 mod degree;
 mod desks;
 mod feeds;
 mod lines;
 mod orders;
+mod saying;
 mod sending;
 mod sixty;
 mod values;
 
 use crate::judge::{Reason, Row};
 pub use desks::{desks, DeskCases, LoadCase, ReadCase};
+pub use saying::{sayings, SayCase};
 pub use sending::{sendings, SendCase};
 
 /// The answer that a case must get.
@@ -260,7 +262,9 @@ mod tests {
     use super::*;
     use crate::desk::{place, read};
     use crate::judge::{Answer, Feed};
+    use crate::say::say;
     use crate::send::send;
+    use crate::weigh::weigh;
 
     fn all_differ(mut names: Vec<String>, least: usize) {
         let count = names.len();
@@ -276,6 +280,17 @@ mod tests {
         all_differ(loads.into_iter().map(|case| case.name).collect(), 120);
         all_differ(reads.into_iter().map(|case| case.name).collect(), 120);
         all_differ(sendings().into_iter().map(|case| case.name).collect(), 1_000);
+        all_differ(sayings().into_iter().map(|case| case.name).collect(), 1_000);
+    }
+
+    #[test]
+    fn the_sayer_gives_the_answers_written_by_hand() {
+        sayings().iter().for_each(|case| assert_eq!(say(&case.saying), case.want, "{}", case.name));
+    }
+
+    #[test]
+    fn the_answers_written_by_hand_have_no_fault_when_weighed() {
+        sayings().iter().for_each(|case| assert_eq!(weigh(&case.saying).fault(case.want), None, "{}", case.name));
     }
 
     #[test]

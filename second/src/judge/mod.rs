@@ -12,7 +12,7 @@ mod words;
 
 pub use cut::{is_heading, Cut};
 pub use rows::Row;
-pub use shape::is_leap;
+pub use shape::{is_leap, is_number};
 pub use words::{coded, Wanted};
 
 /// A feed has at most this many bytes.

@@ -1,12 +1,13 @@
-//! What is asked: fixed cases, generated feeds, sessions and writings, each with what is known of the answer beforehand.
+//! What is asked: fixed cases, generated feeds, sessions, writings and texts, each with what is known of the answer beforehand.
 
-use second::cases::{Case, DeskCases, SendCase, Want};
+use second::cases::{Case, DeskCases, SayCase, SendCase, Want};
 use second::desk::{Heard, Load, Placed, Reading};
 use second::dice::Dice;
-use second::face::{add_judge, add_place, add_read, add_write, Face};
+use second::face::{add_judge, add_place, add_read, add_say, add_write, Face};
 use second::harm::{fill, harm_bytes, harm_draft};
 use second::judge::{Feed, Reason, Row, FEED_LIMIT};
 use second::make::{draft, sent, write, Written};
+use second::sayings::{any_spoken, Spoken};
 use second::send::Sent;
 use second::session::{session, Step};
 use second::writings::{writings, Again, Letter, Writing};
@@ -15,6 +16,9 @@ use std::rc::Rc;
 /// So many in a hundred generated feeds begin a session on a desk.
 const SESSIONS: usize = 50;
 
+/// The turns of texts begin after those of any feeds, so that both have dice of their own.
+const TEXT_TURNS: u64 = 1 << 40;
+
 /// Something to ask, and where it comes from.
 pub struct Item {
     pub name: String,
@@ -22,13 +26,14 @@ pub struct Item {
     pub ask: Ask,
 }
 
-/// A call on the face, or a few, with what must be answered if that is known without judge, desk or writer.
+/// A call on the face, or a few, with what must be answered if that is known without judge, desk, writer or sayer.
 pub enum Ask {
     Judge(Judging),
     Load(Load, Placed),
     Read(Reading, Vec<Option<Heard>>),
     Write(Writing),
     Again(Again),
+    Say(Spoken),
 }
 
 /// Messages of a feed to be judged.
@@ -51,24 +56,15 @@ pub enum Known {
 }
 
 impl Item {
-    pub fn feed(&self) -> &[u8] {
+    /// What is asked about, and what goes with it, each by its name.
+    pub fn parts(&self) -> Vec<(&'static str, &[u8])> {
         match &self.ask {
-            Ask::Judge(judging) => &judging.feed,
-            Ask::Load(load, _) => &load.feed,
-            Ask::Read(reading, _) => &reading.feed,
-            Ask::Write(writing) => &writing.sending.feed,
-            Ask::Again(again) => &again.first.feed,
-        }
-    }
-
-    /// What goes with the feed, if anything does, and what it is.
-    pub fn beside(&self) -> Option<(&'static str, &[u8])> {
-        match &self.ask {
-            Ask::Judge(_) => None,
-            Ask::Load(load, _) => Some(("table", &load.table)),
-            Ask::Read(reading, _) => Some(("table", &reading.table)),
-            Ask::Write(writing) => Some(("buffer", &writing.sending.buffer)),
-            Ask::Again(again) => Some(("output", &again.then.feed)),
+            Ask::Judge(judging) => vec![("feed", &judging.feed)],
+            Ask::Load(load, _) => vec![("feed", &load.feed), ("table", &load.table)],
+            Ask::Read(reading, _) => vec![("feed", &reading.feed), ("table", &reading.table)],
+            Ask::Write(writing) => vec![("feed", &writing.sending.feed), ("buffer", &writing.sending.buffer)],
+            Ask::Again(again) => vec![("feed", &again.first.feed), ("output", &again.then.feed)],
+            Ask::Say(spoken) => vec![("text", &spoken.saying.text)],
         }
     }
 
@@ -84,6 +80,7 @@ impl Item {
                 add_place(batch, &again.then);
                 add_write(batch, &again.sending);
             }
+            Ask::Say(spoken) => add_say(batch, &spoken.saying),
         }
     }
 
@@ -100,6 +97,7 @@ impl Item {
                     && face.next_placed(&again.then).is_ok()
                     && face.next_sent(&again.sending).is_ok()
             }
+            Ask::Say(_) => face.next_said().is_ok(),
         }
     }
 }
@@ -130,6 +128,11 @@ pub fn send_item(case: SendCase) -> Item {
     fixed(&name, Ask::Write(letter.into_buffer(sending.buffer, Some(want))))
 }
 
+pub fn say_item(case: SayCase) -> Item {
+    let SayCase { name, saying, want } = case;
+    fixed(&name, Ask::Say(Spoken { saying, known: Some(want) }))
+}
+
 pub fn desk_items(cases: DeskCases) -> Vec<Item> {
     let loads = cases.loads.into_iter().map(|case| fixed(&case.name, Ask::Load(case.load, case.want)));
     let reads = cases.reads.into_iter().map(|case| fixed(&case.name, Ask::Read(case.reading, case.want.into_iter().map(Some).collect())));
@@ -158,6 +161,12 @@ pub fn generated_items(seed: u64, turn: usize) -> Vec<Item> {
     items.extend((1..).zip(writings).map(|(at, writing)| item(format!(", writing {at}"), Ask::Write(writing))));
     items.extend((1..).zip(agains).map(|(at, again)| item(format!(", output {at} loaded again"), Ask::Again(again))));
     items
+}
+
+/// The text that one turn of a seed brings.
+pub fn generated_text(seed: u64, turn: usize) -> Item {
+    let spoken = any_spoken(&mut Dice::new(seed, TEXT_TURNS + turn as u64));
+    Item { name: format!("generated text {turn} of seed {seed}"), generated: true, ask: Ask::Say(spoken) }
 }
 
 /// A feed, and what is foretold of it.

@@ -1,4 +1,5 @@
-//! Runs the second judge, desk and writer beside the product's C face, on fixed cases and on generated feeds, and names every difference.
+//! Runs the second judge, desk, writer and sayer beside the product's C face, on fixed cases and on generated feeds and texts, and names every
+//! difference.
 
 mod again;
 mod degrees;
@@ -6,23 +7,25 @@ mod desks;
 mod items;
 mod judging;
 mod outputs;
+mod roundings;
+mod saying;
 mod sending;
 mod shown;
 mod sixty;
 mod tally;
 mod words;
 
-use items::{case_items, desk_items, generated_items, send_item, Ask, Item};
+use items::{case_items, desk_items, generated_items, generated_text, say_item, send_item, Ask, Item};
 use second::cases;
 use second::face::Face;
 use std::process::ExitCode;
 use std::time::{Duration, Instant};
-use tally::{Tally, FLOOR_FEEDS};
+use tally::{Tally, FLOOR_FEEDS, FLOOR_TEXTS};
 
 const HELP: &str = "\
-compare --self [--seed N] [--feeds N]
-    runs the second program alone: fixed cases against their answers, sound feeds, calls on a desk and writings against what is foretold
-compare [--seed N] [--feeds N] --face COMMAND...
+compare --self [--seed N] [--feeds N] [--texts N]
+    runs the second program alone: fixed cases against their answers, sound feeds, calls on a desk, writings and texts against what is foretold
+compare [--seed N] [--feeds N] [--texts N] --face COMMAND...
     runs it beside the product's C face; everything after --face is the command that starts the face";
 
 /// Calls that go to the face at a time.
@@ -34,6 +37,7 @@ const ENOUGH: usize = 10;
 struct Options {
     seed: u64,
     feeds: usize,
+    texts: usize,
     /// The command that starts the face, or nothing to run the second program alone.
     face: Option<Vec<String>>,
 }
@@ -56,7 +60,7 @@ fn main() -> ExitCode {
 }
 
 fn options(arguments: &[String]) -> Result<Options, String> {
-    let mut options = Options { seed: 1, feeds: FLOOR_FEEDS, face: None };
+    let mut options = Options { seed: 1, feeds: FLOOR_FEEDS, texts: FLOOR_TEXTS, face: None };
     let mut alone = false;
     let mut at = 0;
     while at < arguments.len() {
@@ -64,6 +68,7 @@ fn options(arguments: &[String]) -> Result<Options, String> {
             "--self" => alone = true,
             "--seed" => options.seed = number(arguments, &mut at)?,
             "--feeds" => options.feeds = number(arguments, &mut at)? as usize,
+            "--texts" => options.texts = number(arguments, &mut at)? as usize,
             "--face" => {
                 options.face = Some(arguments[at + 1..].to_vec());
                 break;
@@ -85,24 +90,26 @@ fn number(arguments: &[String], at: &mut usize) -> Result<u64, String> {
 }
 
 fn run(options: &Options) -> Result<bool, String> {
-    let (fixed, desks, sendings) = (cases::all(), cases::desks(), cases::sendings());
-    let feeds = fixed.len() + options.feeds;
+    let (fixed, desks, sendings, sayings) = (cases::all(), cases::desks(), cases::sendings(), cases::sayings());
+    let mut progress = Progress { last: Instant::now(), feeds: fixed.len() + options.feeds, texts: sayings.len() + options.texts };
     println!("seed {}", options.seed);
     let of_desks = format!("{} of loads, {} of tickets", desks.loads.len(), desks.reads.len());
-    println!("{} fixed cases of judging, {of_desks}, {} of writings", fixed.len(), sendings.len());
+    println!("{} fixed cases of judging, {of_desks}, {} of writings, {} of sayings", fixed.len(), sendings.len(), sayings.len());
     println!("{} generated feeds", options.feeds);
+    println!("{} generated texts", options.texts);
     let mut face = options.face.as_ref().map(|command| Face::start(command)).transpose()?;
     let mut tally = Tally::new();
-    let generated = (0..options.feeds).flat_map(|turn| generated_items(options.seed, turn));
     let judged = fixed.into_iter().flat_map(case_items);
-    let items = judged.chain(desk_items(desks)).chain(sendings.into_iter().map(send_item)).chain(generated);
-    let mut progress = Progress { last: Instant::now(), feeds };
+    let others = desk_items(desks).into_iter().chain(sendings.into_iter().map(send_item)).chain(sayings.into_iter().map(say_item));
+    let feeds = (0..options.feeds).flat_map(|turn| generated_items(options.seed, turn));
+    let texts = (0..options.texts).map(|turn| generated_text(options.seed, turn));
+    let items = judged.chain(others).chain(feeds).chain(texts);
     compare_all(items, options, face.as_mut(), &mut tally, &mut progress)?;
     // A run that has stopped early leaves answers unread, and says so by its differences.
     if let Some(face) = face.as_mut().filter(|_| tally.differences < ENOUGH) {
         face.finish()?;
     }
-    Ok(tally.report(options.feeds))
+    Ok(tally.report(options.feeds, options.texts))
 }
 
 /// Asks about everything in batches; the face works on one batch while the second program works on the one before.
@@ -160,12 +167,14 @@ fn requests<'i>(batch: impl IntoIterator<Item = &'i Item>) -> Vec<u8> {
 struct Progress {
     last: Instant,
     feeds: usize,
+    texts: usize,
 }
 
 impl Progress {
     fn tell(&mut self, tally: &Tally) {
         if self.last.elapsed() >= Duration::from_secs(3) {
-            eprintln!("{} of {} feeds done, {} differences so far", tally.feeds, self.feeds, tally.differences);
+            let done = format!("{} of {} feeds and {} of {} texts done", tally.feeds, self.feeds, tally.texts, self.texts);
+            eprintln!("{done}, {} differences so far", tally.differences);
             self.last = Instant::now();
         }
     }
@@ -179,6 +188,7 @@ fn compare(item: &Item, face: Option<&mut Face>, tally: &mut Tally) -> Result<()
         Ask::Read(reading, known) => desks::compare_read(reading, known, item.generated, face, tally),
         Ask::Write(writing) => sending::compare_sent(writing, item.generated, face, tally),
         Ask::Again(again) => again::compare_again(again, item.generated, face, tally),
+        Ask::Say(spoken) => saying::compare_said(spoken, item.generated, face, tally),
     }?;
     if !facts.is_empty() {
         tally.differences += 1;

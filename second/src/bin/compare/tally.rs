@@ -3,27 +3,31 @@
 use crate::degrees::{degrees, Degrees};
 use crate::items::Item;
 use crate::outputs::{outputs, Outputs};
+use crate::roundings::{roundings, Roundings};
 use crate::sixty::{sixties, Sixties};
 use crate::words::{counts_words, rare};
-use second::desk::reason_name;
-use std::ops::RangeInclusive;
+use second::desk::{reason_name, PLACES, TOO_BIG};
+use second::judge::Reason;
 use std::path::{Path, PathBuf};
 
 /// Each 20,000 generated feeds must bring every reason, every case of second 60 and of degrees, and everything that writings can show, this often.
 const FLOOR: usize = 100;
 pub const FLOOR_FEEDS: usize = 20_000;
 
+/// The same for each 120,000 generated texts, the reasons of sayings and everything that they can show.
+pub const FLOOR_TEXTS: usize = 120_000;
+
 /// How often each answer came to one kind of call; number 0 is the good answer.
 pub struct Counts {
     what: &'static str,
     good: &'static str,
-    reasons: RangeInclusive<u32>,
-    counts: [usize; 17],
+    reasons: Vec<u32>,
+    counts: [usize; 19],
 }
 
 impl Counts {
-    fn new(what: &'static str, good: &'static str, reasons: RangeInclusive<u32>) -> Counts {
-        Counts { what, good, reasons, counts: [0; 17] }
+    fn new(what: &'static str, good: &'static str, reasons: impl IntoIterator<Item = u32>) -> Counts {
+        Counts { what, good, reasons: reasons.into_iter().collect(), counts: [0; 19] }
     }
 
     pub fn add(&mut self, reason: u32) {
@@ -32,7 +36,7 @@ impl Counts {
 
     /// The reasons that this kind of call can give, by name, with their counts.
     fn named(&self) -> impl Iterator<Item = (&'static str, usize)> + '_ {
-        self.reasons.clone().map(|reason| (reason_name(reason).unwrap_or("no name"), self.counts[reason as usize]))
+        self.reasons.iter().map(|reason| (reason_name(*reason).unwrap_or("no name"), self.counts[*reason as usize]))
     }
 
     fn rare(&self, floor: usize) -> Vec<String> {
@@ -44,18 +48,21 @@ impl Counts {
     }
 }
 
-/// What has been counted so far; the reasons, the second 60, the degrees and the outputs are those of generated feeds alone.
+/// What has been counted so far; the reasons, the second 60, the degrees, the outputs and the roundings are those of generated feeds and texts alone.
 pub struct Tally {
     pub feeds: usize,
+    pub texts: usize,
     pub answers: usize,
     pub differences: usize,
     pub judged: Counts,
     pub loads: Counts,
     pub tickets: Counts,
     pub writings: Counts,
+    pub sayings: Counts,
     pub sixties: Sixties,
     pub degrees: Degrees,
     pub outputs: Outputs,
+    pub roundings: Roundings,
     save: PathBuf,
 }
 
@@ -63,43 +70,50 @@ impl Tally {
     pub fn new() -> Tally {
         Tally {
             feeds: 0,
+            texts: 0,
             answers: 0,
             differences: 0,
             judged: Counts::new("generated judgements", "accepted", 1..=11),
             loads: Counts::new("generated loads", "accepted", 1..=13),
             tickets: Counts::new("generated tickets", "answered", 14..=16),
             writings: Counts::new("generated writings", "written", 1..=12),
+            sayings: Counts::new("generated sayings", "said", [Reason::Value.number(), TOO_BIG, PLACES]),
             sixties: sixties(),
             degrees: degrees(),
             outputs: outputs(),
+            roundings: roundings(),
             save: save_directory(),
         }
     }
 
-    /// Says what was counted; true if there was no difference and everything came often enough.
-    pub fn report(&self, generated: usize) -> bool {
-        let floor = if generated < FLOOR_FEEDS { 0 } else { FLOOR * (generated / FLOOR_FEEDS) };
+    /// Says what was counted; true if there was no difference and everything came often enough among so many generated feeds and texts.
+    pub fn report(&self, feeds: usize, texts: usize) -> bool {
+        let floor = floor_of(feeds, FLOOR_FEEDS);
         let kinds = [&self.judged, &self.loads, &self.tickets, &self.writings];
         let of_kinds = kinds.iter().flat_map(|counts| counts.rare(floor));
-        let of_feeds = self.sixties.rare(floor).into_iter().chain(self.degrees.rare(floor));
-        let rare: Vec<String> = of_kinds.chain(of_feeds).chain(self.outputs.rare(floor)).collect();
+        let of_feeds = self.sixties.rare(floor).into_iter().chain(self.degrees.rare(floor)).chain(self.outputs.rare(floor));
+        let floor = floor_of(texts, FLOOR_TEXTS);
+        let of_texts = self.sayings.rare(floor).into_iter().chain(self.roundings.rare(floor));
+        let rare: Vec<String> = of_kinds.chain(of_feeds).chain(of_texts).collect();
         // A run that stopped early has not had the time to bring everything.
         let too_rare = self.differences == 0 && !rare.is_empty();
         if too_rare {
             rare.iter().for_each(|words| println!("{words}"));
         }
         kinds.iter().for_each(|counts| println!("{}", counts.words()));
+        println!("{}", self.sayings.words());
         println!("{}", self.sixties.words());
         println!("{}", self.degrees.words());
         println!("{}", self.outputs.words());
+        println!("{}", self.roundings.words());
         println!("{} feeds, {} answers, {} differences", self.feeds, self.answers, self.differences);
         self.differences == 0 && !too_rare
     }
 
-    /// Keeps the feed of a difference, and what goes with it, and says where.
+    /// Keeps what a difference was asked about, and what went with it, and says where.
     pub fn keep(&self, item: &Item) -> String {
-        let words = self.keep_as("feed", item.feed());
-        item.beside().map_or(words.clone(), |(what, bytes)| format!("{words}\n{}", self.keep_as(what, bytes)))
+        let words: Vec<String> = item.parts().into_iter().map(|(what, bytes)| self.keep_as(what, bytes)).collect();
+        words.join("\n")
     }
 
     fn keep_as(&self, what: &str, bytes: &[u8]) -> String {
@@ -109,6 +123,11 @@ impl Tally {
             Err(error) => format!("the {what} could not be kept in {}: {error}", path.display()),
         }
     }
+}
+
+/// How often each thing must come among so many; fewer than a whole run's have no floor.
+fn floor_of(generated: usize, whole: usize) -> usize {
+    FLOOR * (generated / whole)
 }
 
 /// The directory `build` of the repository, wherever within it the program is started.
@@ -137,12 +156,13 @@ mod tests {
     /// A tally in which everything came just often enough.
     fn whole() -> Tally {
         let mut tally = Tally::new();
-        for counts in [&mut tally.judged, &mut tally.loads, &mut tally.tickets, &mut tally.writings] {
-            counts.reasons.clone().for_each(|reason| (0..FLOOR).for_each(|_| counts.add(reason)));
+        for counts in [&mut tally.judged, &mut tally.loads, &mut tally.tickets, &mut tally.writings, &mut tally.sayings] {
+            counts.reasons.clone().into_iter().for_each(|reason| (0..FLOOR).for_each(|_| counts.add(reason)));
         }
         tally.sixties.counts = [FLOOR; 6];
         tally.degrees.counts = [FLOOR; 4];
         tally.outputs.counts = [FLOOR; 17];
+        tally.roundings.counts.fill(FLOOR);
         tally
     }
 
@@ -150,14 +170,23 @@ mod tests {
     fn fails(spoil: impl Fn(&mut Tally)) {
         let mut tally = whole();
         spoil(&mut tally);
-        assert!(!tally.report(FLOOR_FEEDS));
-        assert!(tally.report(FLOOR_FEEDS - 1));
+        assert!(!tally.report(FLOOR_FEEDS, 0));
+        assert!(tally.report(FLOOR_FEEDS - 1, FLOOR_TEXTS));
+    }
+
+    /// The same for the floor's texts.
+    fn fails_by_texts(spoil: impl Fn(&mut Tally)) {
+        let mut tally = whole();
+        spoil(&mut tally);
+        assert!(!tally.report(0, FLOOR_TEXTS));
+        assert!(tally.report(FLOOR_FEEDS, FLOOR_TEXTS - 1));
     }
 
     #[test]
     fn a_run_that_has_everything_stands() {
-        assert!(whole().report(FLOOR_FEEDS));
-        assert!(!whole().report(2 * FLOOR_FEEDS));
+        assert!(whole().report(FLOOR_FEEDS, FLOOR_TEXTS));
+        assert!(!whole().report(2 * FLOOR_FEEDS, FLOOR_TEXTS));
+        assert!(!whole().report(FLOOR_FEEDS, 2 * FLOOR_TEXTS));
     }
 
     #[test]
@@ -178,5 +207,15 @@ mod tests {
     #[test]
     fn a_run_that_lacks_a_reason_of_writings_fails() {
         (1..=12).for_each(|reason| fails(|tally| tally.writings.counts[reason] -= 1));
+    }
+
+    #[test]
+    fn a_run_that_lacks_a_reason_of_sayings_fails() {
+        [8, 17, 18].into_iter().for_each(|reason: usize| fails_by_texts(|tally| tally.sayings.counts[reason] -= 1));
+    }
+
+    #[test]
+    fn a_run_that_lacks_something_that_sayings_show_fails() {
+        (0..whole().roundings.counts.len()).for_each(|at| fails_by_texts(|tally| tally.roundings.counts[at] -= 1));
     }
 }
