@@ -21,6 +21,8 @@ enum { COMMAND_ROOM = 8192, OPM_HEADING = 1, OEM_HEADING = 36 };
 static uint32_t heading;     /* the code of the present load's row 0: it tells what a group is called */
 static struct ticket ticket; /* the one that `ticket` keeps and `speak` uses */
 static struct ticket spoken; /* of the row that was spoken last */
+static bool rounding;        /* whether numbers are said rounded, and to how many decimals */
+static uint32_t decimals;
 static bool leaving;
 
 /* What the library answers, in words */
@@ -80,12 +82,33 @@ static void say_character(uint8_t byte) {
     else say("%s", sign_word(byte));
 }
 
-/* What was asked for comes first, then where it stands. */
-static void say_row(uint32_t number, struct heard heard) {
+/* The value as it stands in the message. */
+static void say_exact(struct heard heard) {
     const char *unit = unit_words(heard.row.code);
-    say("row %" PRIu32 " %s", number, keyword_word(heard.row.code));
     if (heard.row.length == 0) say("no value");
     else say("value %.*s%s%s", (int)heard.row.length, (const char *)heard.value, *unit == '\0' ? "" : " ", unit);
+}
+
+/* So many units of the last decimal, as a decimal number. */
+static void say_about(int64_t units, const char *unit) {
+    uint64_t size = units < 0 ? 0 - (uint64_t)units : (uint64_t)units, ones = 1;
+    const char *sign = units < 0 ? "-" : "", *gap = *unit == '\0' ? "" : " ";
+    for (uint32_t at = 0; at < decimals; at++) ones *= 10;
+    if (decimals == 0) say("value about %s%" PRIu64 "%s%s", sign, size, gap, unit);
+    else say("value about %s%" PRIu64 ".%0*" PRIu64 "%s%s", sign, size / ones, (int)decimals, size % ones, gap, unit);
+}
+
+/* A number is said rounded, if that is wanted; one too big for that, and all that is no number, as it stands. */
+static void say_value(struct heard heard) {
+    odm_rounded rounded = desk_round(heard, decimals);
+    if (rounding && is_number(heard.row.code) && rounded.reason == ODM_OK) say_about(rounded.units, unit_words(heard.row.code));
+    else say_exact(heard);
+}
+
+/* What was asked for comes first, then where it stands. */
+static void say_row(uint32_t number, struct heard heard) {
+    say("row %" PRIu32 " %s", number, keyword_word(heard.row.code));
+    say_value(heard);
     say_group(heard.row.group);
     say("line %" PRIu32, heard.row.line);
 }
@@ -201,6 +224,29 @@ static void run_spell(struct argument argument) {
     for (uint32_t at = 0; at < heard.row.length; at++) say_character(heard.value[at]);
 }
 
+static void run_exact(struct argument argument) {
+    (void)argument;
+    if (!spoken_or_say()) return;
+    struct heard heard = read_or_say("row", spoken.load, spoken.row);
+    if (heard.row.reason == ODM_OK) say_exact(heard);
+}
+
+/* How many decimals can be had is the library's answer; a count that it refuses changes nothing. */
+static void run_decimals(struct argument argument) {
+    uint32_t count = (uint32_t)argument.number, reason = desk_decimals(count);
+    if (strcmp(argument.text, "off") == 0) {
+        rounding = false;
+        say("numbers are said as they stand");
+    } else if (reason != ODM_OK) {
+        say("%" PRIu32 " decimals refused", count);
+        say_reason(reason, 0);
+    } else {
+        rounding = true;
+        decimals = count;
+        say("numbers are said rounded to %" PRIu32 " decimal%s", count, count == 1 ? "" : "s");
+    }
+}
+
 /* A ticket is kept if the library would answer it now; else the one kept before, if any, stays. */
 static void run_ticket(struct argument argument) {
     uint32_t number = (uint32_t)argument.number;
@@ -245,7 +291,7 @@ static void run_quit(struct argument argument) {
     leaving = true;
 }
 
-enum takes { NOTHING, A_NUMBER, A_FILE, A_KEYWORD };
+enum takes { NOTHING, A_NUMBER, A_NUMBER_OR_OFF, A_FILE, A_KEYWORD };
 
 static const struct command {
     const char *name;
@@ -261,7 +307,9 @@ static const struct command {
     {"next", NOTHING, 0, run_next, "next: speak the row after the one spoken last, at first row 0"},
     {"back", NOTHING, 0, run_back, "back: speak the row before the one spoken last"},
     {"find", A_KEYWORD, 0, run_find, "find KEYWORD: speak the next row with this keyword after the one spoken last"},
-    {"spell", NOTHING, 0, run_spell, "spell: spell the value spoken last, one character a line"},
+    {"spell", NOTHING, 0, run_spell, "spell: spell the value spoken last as it stands, one character a line"},
+    {"exact", NOTHING, 0, run_exact, "exact: say the value spoken last as it stands, not rounded"},
+    {"decimals", A_NUMBER_OR_OFF, UINT32_MAX, run_decimals, "decimals N: say numbers rounded to N decimals, from 0 to 6, or with off in place of N as they stand"},
     {"ticket", A_NUMBER, UINT32_MAX, run_ticket, "ticket N: keep a ticket for row N of the present load"},
     {"speak", NOTHING, 0, run_speak, "speak: speak the row of the kept ticket"},
     {"feed", A_FILE, 0, run_feed, "feed FILE: bring in a feed for the next load, and the present load stays"},
@@ -304,9 +352,11 @@ static void run_command(const struct command *command, const char *text) {
     bool given = *text != '\0';
     if (command->takes == NOTHING && given) say("%s stands alone, with nothing after it", command->name);
     else if (command->takes == A_NUMBER && !given) say("%s needs a number", command->name);
+    else if (command->takes == A_NUMBER_OR_OFF && !given) say("%s needs a number or off", command->name);
     else if (command->takes == A_FILE && !given) say("%s needs a file name", command->name);
     else if (command->takes == A_KEYWORD && !given) say("%s needs a keyword", command->name);
     else if (command->takes == A_NUMBER) run_with_number(command, argument);
+    else if (command->takes == A_NUMBER_OR_OFF && strcmp(text, "off") != 0) run_with_number(command, argument);
     else command->run(argument);
 }
 

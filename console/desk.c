@@ -61,6 +61,14 @@ struct heard desk_read(uint32_t load, uint32_t row) {
     return (struct heard){answer, answer.reason == ODM_OK ? loaded.bytes + answer.start : NULL};
 }
 
+odm_rounded desk_round(struct heard heard, uint32_t decimals) {
+    return odm_round(heard.value, heard.row.length, decimals);
+}
+
+uint32_t desk_decimals(uint32_t decimals) {
+    return odm_round((const uint8_t *)"0", 1, decimals).reason; /* 0 is a number, and never too big */
+}
+
 struct sent desk_write(void) {
     size_t message = desk.count > 0 ? loaded_message : 0; /* no feed has a message 0, so nothing is written of a load before a refused one */
     odm_written answer = odm_write(loaded.bytes, loaded.length, message, text, sizeof text);

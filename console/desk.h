@@ -47,6 +47,12 @@ uint32_t desk_rows(void);
 /* The row that a load number and a row number stand for. */
 struct heard desk_read(uint32_t load, uint32_t row);
 
+/* A value that was heard, as whole units of a decimal place. */
+odm_rounded desk_round(struct heard heard, uint32_t decimals);
+
+/* The reason why numbers cannot be rounded to so many decimals, or ODM_OK. */
+uint32_t desk_decimals(uint32_t decimals);
+
 /* The present load's message in plain form; without a load the answer is ODM_NO_MESSAGE. No desk moves, and no ticket ends. */
 struct sent desk_write(void);
 

@@ -6,7 +6,7 @@
 
 #include "odm.h"
 
-enum { KEYWORDS = 46, REASONS = 17, SIGNS = 127 }; /* one more than the last number; 0 stands for none */
+enum { KEYWORDS = 46, REASONS = 19, SIGNS = 127 }; /* one more than the last number; 0 stands for none */
 
 static const char *const keywords[KEYWORDS] = {
     [1] = "CCSDS_OPM_VERS",
@@ -73,6 +73,8 @@ static const char *const reasons[REASONS] = {
     [ODM_GONE] = "this ticket is of an earlier load",
     [ODM_NO_ROW] = "the present load has no row of this number",
     [ODM_ASTRAY] = "the row is not in the table, or its value is not in the feed",
+    [ODM_TOO_BIG] = "the number is too big to be rounded",
+    [ODM_PLACES] = "at most 6 decimals can be had",
 };
 
 static const char *const signs[SIGNS] = {
@@ -131,6 +133,10 @@ uint32_t keyword_code(const char *text) {
         if (strcasecmp(text, keywords[code]) == 0) return code;
     }
     return 0;
+}
+
+bool is_number(uint32_t code) {
+    return (code >= 10 && code <= 28) || code == 30 || code == 31 || (code >= 33 && code <= 35);
 }
 
 const char *unit_words(uint32_t code) {

@@ -16,7 +16,7 @@ use Rattle.reasons.specs.Reasons.{reasonNo}
 use Rattle.values.specs.Number.{isNumber}
 use Rattle.rounding.specs.Exact.{isMinus, numerator, denominator}
 use Rattle.rounding.specs.Say.{rounded, signed, sizeLimit, saidOf, sayOf}
-use Rattle.rounding.specs.Nearest.{Near, Away, Sign, Largest, TooBig, OneAnswer}
+use Rattle.rounding.specs.Nearest.{NearTo, AwayFromZero, SignOf, Near, Away, Sign, Largest, TooBig, OneAnswer}
 use Rattle.rounding.specs.declared.Said.{Said}
 use Rattle.rounding.specs.declared.Said.the-variants.{Units, Refused}
 use Rattle.rounding.proofs.Laws.{said-big, said-small, say-units}
@@ -128,15 +128,15 @@ module _ (s : List ℕ) (decimals : ℕ) where
         go false true true k = absurd (clash k)
         go false true false k = cc
 
-    near-to : 2 * natAbs (z *ℤ pos q -ℤ signed minus n) ≤ q
+    near-to : NearTo s decimals z
     near-to = rw is-signed (omega (arith, distance minus size q n, rounds-low n q, rounds-high n q some))
 
-    away-from : (k : ℕ) → 2 * n ≡ (2 * k + 1) * q → natAbs z ≡ k + 1
+    away-from : AwayFromZero s decimals z
     away-from k h =
         let half = rounds-to n q (k + 1) (omega arith) (omega (arith, some)) in
         ap natAbs is-signed ∙ abs-signed minus size ∙ half
 
-    sign-of : not (nonNeg z) ≡ minus && not (eqb (natAbs z) 0)
+    sign-of : SignOf s z
     sign-of = rw is-signed (sign-signed minus size)
 
   big-only : sayOf s decimals ≡ Refused Reasons.TooBig → (decimals ≤ 6) × (isNumber s ≡ true) × (sizeLimit < size)
@@ -153,8 +153,7 @@ module _ (s : List ℕ) (decimals : ℕ) where
     big-if : sizeLimit < size → sayOf s decimals ≡ Refused Reasons.TooBig
     big-if h = say-units s decimals few number ∙ said-big minus size h
 
-    module _ (z : ℤ) (near : 2 * natAbs (z *ℤ pos q -ℤ signed minus n) ≤ q) (away : (k : ℕ) → 2 * n ≡ (2 * k + 1) * q → natAbs z ≡ k + 1)
-        (sign : not (nonNeg z) ≡ minus && not (eqb (natAbs z) 0)) where
+    module _ (z : ℤ) (near : NearTo s decimals z) (away : AwayFromZero s decimals z) (sign : SignOf s z) where
       as-signed : z ≡ signed minus (natAbs z)
       as-signed = unsigned-size minus z sign
 
@@ -177,13 +176,13 @@ module _ (s : List ℕ) (decimals : ℕ) where
       )
 
 pub near : Near
-near s decimals z e = near-to s decimals z e
+near = near-to
 
 pub away : Away
-away s decimals z e = away-from s decimals z e
+away = away-from
 
 pub sign : Sign
-sign s decimals z e = sign-of s decimals z e
+sign = sign-of
 
 pub too-big : TooBig
 too-big s decimals = (big-only s decimals, λ h. big-if s decimals (h .0) (h .1) (h .2))

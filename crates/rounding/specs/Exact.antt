@@ -39,7 +39,7 @@ sizeBehind v s = sizeBy (readOn v s) (digits s) (behind s)
 abbrev pub sizeOf : List ℕ → Size
 sizeOf s = sizeBehind (readOn 0 (unsigned s)) (behind (unsigned s))
 
--- the size in "units of that decimal place" as a fraction: there is ten of them for each one of the place before
+-- the size as a fraction in "units of that decimal place": with each decimal a unit is a tenth, and there are ten times as many
 abbrev pub numerator : List ℕ → ℕ → ℕ
 numerator s decimals = sizeOf s .digits * 10 ^ (sizeOf s .up + decimals)
 
