@@ -10,7 +10,7 @@ awk '/^```c$/ { on = 1; next } /^```$/ { on = 0 } on' README.md >build/readme.c
 $RUN build/readme examples/figure-3-1.opm >build/readme.out
 diff - build/readme.out <<'SAYS'
 row 0: keyword code 1, value 1.0
-row 9: about 65035 tenths
+row 16: about 65035 tenths
 the ticket is gone
 message 1 in plain form has 843 bytes
 SAYS
