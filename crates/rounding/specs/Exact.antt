@@ -36,6 +36,7 @@ sizeBy v places e = record { digits = v; up = upBy e; down = places + downBy e }
 abbrev pub sizeBehind : ℕ → List ℕ → Size
 sizeBehind v s = sizeBy (readOn v s) (digits s) (behind s)
 
+-- a number's size: past the sign its digits up to the period are read, then what stands behind it
 abbrev pub sizeOf : List ℕ → Size
 sizeOf s = sizeBehind (readOn 0 (unsigned s)) (behind (unsigned s))
 

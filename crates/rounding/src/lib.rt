@@ -41,6 +41,7 @@ fn signed(minus: bool, size: u64) -> i64
     size as i64
 }
 
+// What is said of a size, rounded already.
 fn say_size(minus: bool, size: u64) -> Said
     ensures { λ r. ⌜ r ≡ saidOf minus size ⌝ }
 {
@@ -127,6 +128,7 @@ fn behind_at(text: &[u8]) -> usize
     n + 1
 }
 
+// Whether `-` stands first, in a number or in its exponent.
 fn is_minus(text: &[u8]) -> bool
     ensures { λ r. ⌜ r ≡ isMinus (now (text .entry)) ⌝ }
 {
@@ -181,6 +183,7 @@ fn size_of(text: &[u8]) -> Size
     size_behind(&rest[at..], whole)
 }
 
+// The decimals are checked before the text, and the text before the size.
 pub fn say_number(text: &[u8], decimals: u32) -> Said
     ensures { λ r. ⌜ r ≡ sayOf (now (text .entry)) decimals ⌝ }
 {
