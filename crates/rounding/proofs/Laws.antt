@@ -37,15 +37,15 @@ module _ (u : ℕ) (h : u < 2 ^ 63) where
   plus-said = toZ-pos w64 h
 
   -- what is left of 0 without the size
-  away : pos 0 -ℤ toZ w64 u ≡ signed true u
+  from-zero : pos 0 -ℤ toZ w64 u ≡ signed true u
   unfolding signed
-  away = ap (λ (z : ℤ). pos 0 -ℤ z) (toZ-pos w64 h) ∙ +ℤ-idl (negℤ (pos u))
+  from-zero = ap (λ (z : ℤ). pos 0 -ℤ z) (toZ-pos w64 h) ∙ +ℤ-idl (negℤ (pos u))
 
   pub minus-fits : SFits w64 (pos 0 -ℤ toZ w64 u)
-  minus-fits = rw away (signed-fits true u h)
+  minus-fits = rw from-zero (signed-fits true u h)
 
   pub minus-said : toZ w64 (ofZ w64 (pos 0 -ℤ toZ w64 u)) ≡ signed true u
-  minus-said = toZ-ofZ minus-fits ∙ away
+  minus-said = toZ-ofZ minus-fits ∙ from-zero
 
 -- ---- the limit
 

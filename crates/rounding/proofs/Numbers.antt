@@ -18,7 +18,7 @@ use Rattle.rounding.specs.Exact.{isMinus, readOn, behind, sizeOf}
 use Rattle.rounding.proofs.Rounds.{ten-least}
 
 -- k digits more say less than ten to the k times what comes next
-pub read-below : (v : ℕ) (s : List ℕ) → readOn v s + 1 ≤ (v + 1) * 10 ^ digits s
+read-below : (v : ℕ) (s : List ℕ) → readOn v s + 1 ≤ (v + 1) * 10 ^ digits s
 unfolding run digitsFrom
 read-below v [] = omega arith
 read-below v (b ∷ s) = go (isDigit b) refl (read-below (v * 10 + (b - 48)) s)

@@ -8,22 +8,23 @@ use native.Mathlib.Omega.{arith}
 use lib.Pow.{pow-add}
 use Rattle.rounding.specs.Say.{rounded}
 
--- the whole number that is at most half a unit below and less than half a unit above
+-- the whole number that lies at most half a unit above the fraction, and less than half a unit below
 pub rounds-to : (n d u : ℕ) → u * (2 * d) ≤ 2 * n + d → 2 * n + d < (u + 1) * (2 * d) → rounded n d ≡ u
 rounds-to n d u h k = div-eq-of-lt-le (2 * d) h k
 
 -- a factor of both sides goes
-pub cancels : (n d c : ℕ) → 0 < c → rounded (n * c) (d * c) ≡ rounded n d
+cancels : (n d c : ℕ) → 0 < c → rounded (n * c) (d * c) ≡ rounded n d
 cancels n d c h =
     let up : 2 * (n * c) + d * c ≡ (2 * n + d) * c = omega arith in
     let down : 2 * (d * c) ≡ (2 * d) * c = omega arith in
     rw (up, down) (mul-div-mul-right (2 * n + d) (2 * d) h)
 
-pub whole : (n : ℕ) → rounded n 1 ≡ n
+whole : (n : ℕ) → rounded n 1 ≡ n
 whole n = rounds-to n 1 n (omega arith) (omega arith)
 
+-- with all places but one cut off, the next place decides
 module _ (n q u : ℕ) (h : 0 < q) where
-  pub last-place : 10 * u ≤ n / q + 5 → n / q + 5 < 10 * u + 10 → rounded n (q * 10) ≡ u
+  last-place : 10 * u ≤ n / q + 5 → n / q + 5 < 10 * u + 10 → rounded n (q * 10) ≡ u
   last-place lo hi = rounds-to n (q * 10) u
       (omega (arith, mul-le-mul-right q lo, div-mul-le-self n q))
       (omega (arith, mul-le-mul-right q hi, lt-div-mul-add {a = n} h))
