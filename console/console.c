@@ -100,8 +100,9 @@ static void say_about(int64_t units, const char *unit) {
 
 /* A number is said rounded, if that is wanted; one too big for that, and all that is no number, as it stands. */
 static void say_value(struct heard heard) {
-    odm_rounded rounded = desk_round(heard, decimals);
-    if (rounding && is_number(heard.row.code) && rounded.reason == ODM_OK) say_about(rounded.units, unit_words(heard.row.code));
+    odm_rounded rounded = {ODM_VALUE, 0};
+    if (rounding && is_number(heard.row.code)) rounded = desk_round(heard, decimals);
+    if (rounded.reason == ODM_OK) say_about(rounded.units, unit_words(heard.row.code));
     else say_exact(heard);
 }
 
@@ -233,13 +234,13 @@ static void run_exact(struct argument argument) {
 
 /* How many decimals can be had is the library's answer; a count that it refuses changes nothing. */
 static void run_decimals(struct argument argument) {
-    uint32_t count = (uint32_t)argument.number, reason = desk_decimals(count);
+    uint32_t count = (uint32_t)argument.number;
     if (strcmp(argument.text, "off") == 0) {
         rounding = false;
         say("numbers are said as they stand");
-    } else if (reason != ODM_OK) {
+    } else if (desk_decimals(count) != ODM_OK) {
         say("%" PRIu32 " decimals refused", count);
-        say_reason(reason, 0);
+        say_reason(desk_decimals(count), 0);
     } else {
         rounding = true;
         decimals = count;

@@ -1,4 +1,4 @@
--- `reasons::reason_number` meets its contract: each arm is told its reason. With sixteen reasons the check found this by itself; with more it does not.
+-- `reasons::reason_number` meets its contract: each arm is told its reason. With sixteen reasons the check found this by itself, with eighteen it does not.
 -- Assumes nothing.
 use mathlib.Core.Path.{ap, sym}
 use borrow.Author.Needs.{needs}
