@@ -3,8 +3,9 @@
 # Usage: console/check.sh COMMAND.., the command that starts the console, seen from the root: console/check.sh qemu-x86_64 build/console
 # A session is NAME.in (what is typed), NAME.args (one argument a line), NAME.out (what is said, and the exit status where it is not 0) and, where
 # the arguments have a speech command that writes build/sessions/NAME.said, NAME.said. What was said this time stays in build/sessions/.
-# Each session has a folder of its own to write to, build/sessions/NAME.files, empty before: afterwards it holds the files of NAME.files and no others, and
-# none at all where there is no NAME.files. Where there is NAME.limit, no file can grow past that many KB, as on a disk that is full.
+# Each session has a folder of its own to write to, build/sessions/NAME.files, with the files of NAME.before or empty: afterwards it holds the files of
+# NAME.files and no others, and none at all where there is no NAME.files. Where there is NAME.limit, no file can grow past that many KB, as on a disk that is
+# full. Where there is NAME.terminal, the console's standard output is a terminal; what it says there every two seconds is held to its words alone.
 set -u
 cd "$(dirname "$0")/.." || exit 1
 if [ $# -eq 0 ]; then
@@ -16,33 +17,66 @@ fresh=build/sessions
 sessions=0
 failed=0
 
-make_feeds() { # three that a session changes or removes; whole.oem's 244 bytes, then blank lines up to the limit of 65,535, and one byte past it
+blank_lines() { # blank_lines COUNT
+  head -c "$1" /dev/zero | tr '\0' '\n'
+}
+
+make_day() { # a state for each second of a day: data line N of it, from 0, is line N + 13, has the rows from 7 x N + 12 on, and says N at X and -N at Y
+  sed '/^META_STOP/q; s/^STOP_TIME.*/STOP_TIME=2000-001T23:59:59/' "$stored/whole.oem"
+  awk 'BEGIN { for (n = 0; n < 86400; n++) printf "2000-01-01T%02d:%02d:%02d %d %d 0 7.5 -1 0.25\n", n / 3600, n / 60 % 60, n % 60, n, -n }'
+}
+
+make_feeds() { # what a session changes or removes, and what is too big to be stored
   cp "$stored/whole.oem" "$fresh/changing.oem"
   cp "$stored/whole.oem" "$fresh/vanishing.oem"
   cp "$stored/whole.oem" "$fresh/write-changed.oem"
-  { cat "$stored/whole.oem"; head -c 65291 /dev/zero | tr '\0' '\n'; } >"$fresh/full.feed"
+  { cat "$stored/whole.oem"; blank_lines 16776971; } >"$fresh/full.feed" # 16,777,215 bytes, the limit
   { cat "$fresh/full.feed"; echo; } >"$fresh/long.feed"
+  { cat "$stored/whole.oem"; blank_lines 65292; } >"$fresh/past.feed" # 65,536 bytes, one past the limit of earlier consoles
+  { blank_lines 65536; cat "$stored/whole.oem"; } >"$fresh/late.feed" # a message that starts past that limit
+  make_day >"$fresh/day.feed"
+  mkfifo "$fresh/slow.feed"
+}
+
+on_terminal() { # on_terminal TYPED COMMAND..: with standard output on a terminal, while slow.feed takes three seconds to come
+  local typed=$1 line writer status
+  shift
+  printf -v line '%q ' "$@"
+  { sleep 3; cat "$stored/whole.oem"; } >"$fresh/slow.feed" &
+  writer=$!
+  SHELL=$BASH script -qec "$line <$typed" /dev/null </dev/null | tr -d '\r' | sed -E 's/^(still .*), [0-9]+ seconds$/\1, N seconds/' | uniq
+  status=${PIPESTATUS[0]}
+  kill "$writer" 2>/dev/null # it waits for ever where nobody has read the feed
+  return "$status"
 }
 
 run() { # run NAME COMMAND..: one session
-  local name=$1 status arguments
+  local name=$1 status arguments terminal=()
   shift
   mapfile -t arguments <"$stored/$name.args"
   mkdir "$fresh/$name.files"
+  if [ -d "$stored/$name.before" ]; then cp "$stored/$name.before"/* "$fresh/$name.files"; fi
+  if [ -e "$stored/$name.terminal" ]; then terminal=(on_terminal "$stored/$name.in"); fi
   (
     if [ -e "$stored/$name.limit" ]; then ulimit -f "$(cat "$stored/$name.limit")"; fi
-    exec timeout 120 "$@" "${arguments[@]}"
+    "${terminal[@]}" timeout 120 "$@" "${arguments[@]}"
   ) <"$stored/$name.in" >"$fresh/$name.out" 2>&1
   status=$?
   [ "$status" -eq 0 ] || echo "exit status $status" >>"$fresh/$name.out"
 }
 
-same() { # same NAME: whether the session went as stored; the differences are printed
+alike() { # alike WHAT..: whether diff finds no difference; the first lines of one are printed, since a whole feed may differ
+  diff "$@" >"$fresh/difference" && return 0
+  head -n 100 "$fresh/difference"
+  return 1
+}
+
+same() { # same NAME: whether the session went as stored
   local result=0 files=$stored/$1.files
   [ -e "$files" ] || files=$fresh/none
-  diff -u "$stored/$1.out" "$fresh/$1.out" || result=1
-  if [ -e "$stored/$1.said" ]; then diff -u "$stored/$1.said" "$fresh/$1.said" || result=1; fi
-  diff -ru "$files" "$fresh/$1.files" || result=1
+  alike -u "$stored/$1.out" "$fresh/$1.out" || result=1
+  if [ -e "$stored/$1.said" ]; then alike -u "$stored/$1.said" "$fresh/$1.said" || result=1; fi
+  alike -ru "$files" "$fresh/$1.files" || result=1
   return "$result"
 }
 
@@ -51,6 +85,10 @@ mkdir -p "$fresh/none"
 make_feeds
 for typed in "$stored"/*.in; do
   name=$(basename "$typed" .in)
+  if [ -e "$stored/$name.terminal" ] && ! script -qec true /dev/null </dev/null >/dev/null 2>&1; then
+    echo "session $name not run: there is no terminal to be had here"
+    continue
+  fi
   sessions=$((sessions + 1))
   run "$name" "$@"
   if ! same "$name"; then

@@ -8,15 +8,17 @@
 #include <stddef.h>
 #include <stdint.h>
 #include <stdio.h>
+#include <stdlib.h>
 #include <string.h>
 #include <unistd.h>
 
 #include "desk.h"
 #include "file.h"
+#include "tables.h"
 #include "voice.h"
 #include "words.h"
 
-enum { COMMAND_ROOM = 8192, OPM_HEADING = 1, OEM_HEADING = 36 };
+enum { COMMAND_ROOM = 8192, ENDING_ROOM = 8, OPM_HEADING = 1, OEM_HEADING = 36 };
 
 static uint32_t heading;     /* the code of the present load's row 0: it tells what a group is called */
 static struct ticket ticket; /* the one that `ticket` keeps and `speak` uses */
@@ -47,6 +49,7 @@ static void say_error(const char *deed, const char *name, int error) {
     say("cannot %s %s", deed, name);
     if (error == 0) say("reason: it is not known");
     else if (error == EEXIST) say("reason: a file or folder of this name is there already, and it stays as it is");
+    else if (error == ENOMEM) say("reason: there is not enough memory");
     else say("reason: %s", strerror(error));
 }
 
@@ -169,7 +172,13 @@ static void run_messages(struct argument argument) {
 }
 
 static void run_load(struct argument argument) {
-    odm_placed placed = desk_place((size_t)argument.number);
+    odm_placed placed;
+    if (!desk_place((size_t)argument.number, &placed)) {
+        say("message %" PRIu64 " not loaded", argument.number);
+        say("reason: there is not enough memory for its rows");
+        if (desk_rows() > 0) say("the present load stays as it is");
+        return;
+    }
     if (placed.reason != ODM_OK) {
         say("message %" PRIu64 " refused", argument.number);
         say_reason(placed.reason, placed.line);
@@ -271,9 +280,13 @@ static void run_feed(struct argument argument) {
 }
 
 static void run_write(struct argument argument) {
-    if (!loaded_or_say()) return;
-    struct sent sent = desk_write();
+    struct sent sent;
     int error;
+    if (!loaded_or_say()) return;
+    if (!desk_write(&sent)) {
+        say_error("write", argument.text, ENOMEM);
+        return;
+    }
     if (sent.answer.reason != ODM_OK) {
         say("message %zu refused", sent.message);
         say_reason(sent.answer.reason, sent.answer.line);
@@ -283,6 +296,59 @@ static void run_write(struct argument argument) {
     } else {
         say_error("write", argument.text, error);
     }
+    free(sent.text);
+}
+
+/* Recorded tables: of their numbers and bytes nothing is said but how many there are. */
+
+static void run_record(struct argument argument) {
+    size_t length;
+    int error;
+    if (!loaded_or_say()) return;
+    const uint8_t *table = desk_table(&length);
+    if (file_put(argument.text, table, length, &error)) {
+        say("table recorded in %s", argument.text);
+        say_row_count();
+        say("%zu bytes", length);
+    } else {
+        say_error("write", argument.text, error);
+    }
+}
+
+static void say_recast(const struct recast *recast, const char *done, const char *name) {
+    say("table %s to %s", done, name);
+    say("%zu %s", recast->entries, recast->entries == 1 ? "entry" : "entries");
+    say("%zu bytes", recast->made.length);
+    if (recast->spare > 0) say("%zu byte%s after the last entry left out", recast->spare, recast->spare == 1 ? "" : "s");
+}
+
+/* Makes a recorded table over, into a new file beside it. */
+static void make_over(const char *name, enum way way, const char *done, const char *ending) {
+    static char beside[COMMAND_ROOM + ENDING_ROOM];
+    struct recast recast;
+    int error;
+    if (!table_recast(name, way, &recast, &error)) {
+        say_error("read", name, error);
+        return;
+    }
+    snprintf(beside, sizeof beside, "%s.%s", name, ending);
+    if (recast.reason != ODM_OK) {
+        say("table %s not %s", name, done);
+        say_reason(recast.reason, 0);
+    } else if (file_put(beside, recast.made.at, recast.made.length, &error)) {
+        say_recast(&recast, done, beside);
+    } else {
+        say_error("write", beside, error);
+    }
+    free(recast.made.at);
+}
+
+static void run_widen(struct argument argument) {
+    make_over(argument.text, WIDEN, "widened", "wide");
+}
+
+static void run_narrow(struct argument argument) {
+    make_over(argument.text, NARROW, "narrowed", "narrow");
 }
 
 static void run_help(struct argument argument);
@@ -315,6 +381,9 @@ static const struct command {
     {"speak", NOTHING, 0, run_speak, "speak: speak the row of the kept ticket"},
     {"feed", A_FILE, 0, run_feed, "feed FILE: bring in a feed for the next load, and the present load stays"},
     {"write", A_FILE, 0, run_write, "write FILE: write the message of the present load to a new file, in plain form"},
+    {"record", A_FILE, 0, run_record, "record FILE: write the table of the present load to a new file"},
+    {"widen", A_FILE, 0, run_widen, "widen FILE: make a recorded table of two bytes an entry one of four, in the new file FILE.wide"},
+    {"narrow", A_FILE, 0, run_narrow, "narrow FILE: make a recorded table of four bytes an entry one of two, in the new file FILE.narrow"},
     {"help", NOTHING, 0, run_help, "help: say these lines"},
     {"quit", NOTHING, 0, run_quit, "quit: end the session"},
 };

@@ -1,51 +1,59 @@
 #include "desk.h"
 
-#include <errno.h>
-#include <stdio.h>
+#include <stdlib.h>
 
-enum {
-    FEED_TOP = 65535,       /* a feed is read to one byte past this limit, so that the library itself refuses a longer one */
-    TABLE_ROOM = 10 * 65535 /* ten bytes a row */
-};
+#include "file.h"
+#include "progress.h"
 
-struct feed {
-    uint8_t bytes[FEED_TOP + 1];
-    size_t length;
-};
+static struct bytes next;     /* the feed that the next load is judged from: nothing of it can be heard before that */
+static struct bytes loaded;   /* the feed that the last accepted load was judged from: the rows in the table are of these bytes and of no others */
+static struct bytes table;    /* that load's rows */
+static size_t loaded_message; /* the number of its message in its feed */
+static odm_placed desk;       /* as it last came back; a fresh one is all 0 */
 
-static struct feed incoming;  /* a feed while it is read: it takes the next one's place only when all of it is here */
-static struct feed next;      /* what the next load is judged from: nothing of it can be heard before that */
-static struct feed loaded;    /* what the last accepted load was judged from: the rows in the table are of these bytes and of no others */
-static size_t loaded_message; /* the number of its message there */
-static uint8_t table[TABLE_ROOM];
-static uint8_t text[FEED_TOP]; /* a message written out, which is never longer than its feed */
-static odm_placed desk;        /* as it last came back; a fresh one is all 0 */
+/* Frees a feed that another one takes the place of, unless it is still in use: after an acceptance `next` and `loaded` are the same memory. */
+static void drop(struct bytes feed, struct bytes still) {
+    if (feed.at != still.at) free(feed.at);
+}
 
 bool desk_bring(const char *name, int *error) {
-    errno = 0;
-    FILE *file = fopen(name, "rb");
-    bool right = file != NULL;
-    if (right) {
-        incoming.length = fread(incoming.bytes, 1, sizeof incoming.bytes, file);
-        right = ferror(file) == 0;
-    }
-    *error = errno;
-    if (file != NULL) fclose(file);
-    if (right) next = incoming;
-    return right;
+    struct bytes incoming;
+    if (!file_get(name, (size_t)ODM_FEED_LIMIT + 1, &incoming, error)) return false; /* one byte past the limit, so that the library itself refuses */
+    drop(next, loaded);
+    next = incoming;
+    return true;
 }
 
 odm_counted desk_messages(void) {
-    return odm_headings(next.bytes, next.length);
+    progress_begin("counting messages");
+    odm_counted counted = odm_headings(next.at, next.length);
+    progress_end();
+    return counted;
 }
 
-odm_placed desk_place(size_t message) {
-    desk = odm_place(desk.load, desk.count, next.bytes, next.length, message, table, sizeof table);
-    if (desk.reason == ODM_OK) { /* on a refusal the table is as it was, and so is the feed that belongs to it */
-        loaded = next;
-        loaded_message = message;
-    }
-    return desk;
+/* After an acceptance: the feed and the table that belong together. Those of the load before go. */
+static void keep(struct bytes fresh, size_t message) {
+    drop(loaded, next);
+    free(table.at);
+    loaded = next;
+    table = fresh;
+    loaded_message = message;
+}
+
+/* The message is judged for its row count, then once more to fill a table of that size. A refused one has no rows and fills nothing, but it moves the desk. */
+bool desk_place(size_t message, odm_placed *answer) {
+    progress_begin("judging");
+    odm_judged judged = odm_judge(next.at, next.length, message);
+    struct bytes fresh = {NULL, (size_t)judged.rows * ODM_ROW_BYTES};
+    fresh.at = malloc(fresh.length + 1); /* one byte more, since NULL may be the answer to a call for none */
+    bool room = fresh.at != NULL;
+    if (judged.reason == ODM_OK) progress_begin("filling the table");
+    if (room) desk = odm_place(desk.load, desk.count, next.at, next.length, message, fresh.at, fresh.length);
+    progress_end();
+    if (room && desk.reason == ODM_OK) keep(fresh, message);
+    else free(fresh.at); /* the table is as it was, and so is the feed that belongs to it */
+    *answer = desk;
+    return room;
 }
 
 uint32_t desk_load(void) {
@@ -57,8 +65,8 @@ uint32_t desk_rows(void) {
 }
 
 struct heard desk_read(uint32_t load, uint32_t row) {
-    odm_row answer = odm_read(desk.load, desk.count, load, row, loaded.bytes, loaded.length, table, sizeof table);
-    return (struct heard){answer, answer.reason == ODM_OK ? loaded.bytes + answer.start : NULL};
+    odm_row answer = odm_read(desk.load, desk.count, load, row, loaded.at, loaded.length, table.at, table.length);
+    return (struct heard){answer, answer.reason == ODM_OK ? loaded.at + answer.start : NULL};
 }
 
 odm_rounded desk_round(struct heard heard, uint32_t decimals) {
@@ -69,8 +77,22 @@ uint32_t desk_decimals(uint32_t decimals) {
     return odm_round((const uint8_t *)"0", 1, decimals).reason; /* 0 is a number, and never too big */
 }
 
-struct sent desk_write(void) {
+bool desk_write(struct sent *sent) {
     size_t message = desk.count > 0 ? loaded_message : 0; /* no feed has a message 0, so nothing is written of a load before a refused one */
-    odm_written answer = odm_write(loaded.bytes, loaded.length, message, text, sizeof text);
-    return (struct sent){answer, message, answer.reason == ODM_OK ? text : NULL};
+    uint8_t *text = malloc(loaded.length + 1);            /* what is written is never longer than its feed */
+    if (text == NULL) return false;
+    progress_begin("writing");
+    odm_written answer = odm_write(loaded.at, loaded.length, message, text, loaded.length);
+    progress_end();
+    if (answer.reason != ODM_OK) {
+        free(text);
+        text = NULL;
+    }
+    *sent = (struct sent){answer, message, text};
+    return true;
+}
+
+const uint8_t *desk_table(size_t *length) {
+    *length = (size_t)desk.count * ODM_ROW_BYTES; /* a refused load has no rows, so nothing is had of the load before it */
+    return table.at;
 }

@@ -1,5 +1,5 @@
-/* The console's desk: the one place that lends bytes to the library, and always a feed and a table that belong together. A value can be had only
- * from a row that the library gives to a ticket, and a message's text only of the present load: so both only from the bytes that this load judged.
+/* The console's desk: the one place that lends a feed to the library, and always with the table that belongs to it. A value can be had only from a row that
+ * the library gives to a ticket, and a message's text and its table only of the present load: so all three only from the bytes that this load judged.
  */
 #ifndef DESK_H
 #define DESK_H
@@ -25,8 +25,8 @@ struct heard {
 /* The present load's message, written out by the library. */
 struct sent {
     odm_written answer;
-    size_t message;      /* its number in the feed that it was loaded from */
-    const uint8_t *text; /* the answer's length of bytes, until the next writing; NULL on a refusal */
+    size_t message; /* its number in the feed that it was loaded from */
+    uint8_t *text;  /* the answer's length of bytes, for the caller to free; NULL on a refusal */
 };
 
 /* Reads a feed file for the next load. The present load stays as it is; where the file cannot be read, so does the feed for the next load, and
@@ -37,8 +37,8 @@ bool desk_bring(const char *name, int *error);
 /* How many messages the feed for the next load has. */
 odm_counted desk_messages(void);
 
-/* Loads a message of the feed that was brought in last. */
-odm_placed desk_place(size_t message);
+/* Loads a message of the feed that was brought in last. False where there is no memory for its rows: then nothing was loaded, and all is as it was. */
+bool desk_place(size_t message, odm_placed *answer);
 
 /* The present load's number and row count. */
 uint32_t desk_load(void);
@@ -53,7 +53,12 @@ odm_rounded desk_round(struct heard heard, uint32_t decimals);
 /* The reason why numbers cannot be rounded to so many decimals, or ODM_OK. */
 uint32_t desk_decimals(uint32_t decimals);
 
-/* The present load's message in plain form; without a load the answer is ODM_NO_MESSAGE. No desk moves, and no ticket ends. */
-struct sent desk_write(void);
+/* The present load's message in plain form; without a load the answer is ODM_NO_MESSAGE. No desk moves, and no ticket ends. False where there is no memory
+ * for the text.
+ */
+bool desk_write(struct sent *sent);
+
+/* The present load's table, ODM_ROW_BYTES for each of its rows, until the next load; without a load it has no bytes. */
+const uint8_t *desk_table(size_t *length);
 
 #endif

@@ -5,12 +5,48 @@
 #include <fcntl.h>
 #include <signal.h>
 #include <stdio.h>
+#include <stdlib.h>
 #include <string.h>
 #include <unistd.h>
 
-enum { PATH_ROOM = 9000, NAMES_BESIDE = 100 }; /* room for the longest name that can be typed, and for one beside it */
+#include "progress.h"
+
+enum {
+    PATH_ROOM = 9000, /* for the longest name that can be typed, and for one beside it */
+    NAMES_BESIDE = 100,
+    FIRST_ROOM = 65536 /* for a file that is read, before it has turned out to be longer */
+};
 
 static char beside[PATH_ROOM]; /* the name of the file that is filled before it gets its own */
+
+/* Whether all that is wanted was read. The memory is doubled whenever the file has filled it; what is not filled is never touched, and so costs little. */
+static bool fill(FILE *file, size_t most, struct bytes *bytes) {
+    size_t room = 0;
+    while (bytes->length == room && room < most) {
+        room = room == 0 ? FIRST_ROOM : 2 * room;
+        if (room > most) room = most;
+        uint8_t *more = realloc(bytes->at, room);
+        if (more == NULL) return false;
+        bytes->at = more;
+        bytes->length += fread(bytes->at + bytes->length, 1, room - bytes->length, file);
+        if (ferror(file)) return false;
+    }
+    return true;
+}
+
+bool file_get(const char *name, size_t most, struct bytes *bytes, int *error) {
+    struct bytes incoming = {NULL, 0};
+    progress_begin("reading");
+    errno = 0;
+    FILE *file = fopen(name, "rb");
+    bool right = file != NULL && fill(file, most, &incoming);
+    *error = errno;
+    if (file != NULL) fclose(file);
+    progress_end();
+    if (right) *bytes = incoming;
+    else free(incoming.at);
+    return right;
+}
 
 /* Does nothing. At the system's limit on a file's size the write then fails; the signal's own way is to end the session. */
 static void on_size_limit(int number) {
@@ -31,7 +67,10 @@ static bool write_all(int file, const uint8_t *bytes, size_t length) {
 
 /* Whether the bytes are on the disk, where the file system can tell: one that can't answers EINVAL. */
 static bool settle(int file) {
-    return fsync(file) == 0 || errno == EINVAL;
+    while (fsync(file) != 0) {
+        if (errno != EINTR) return errno == EINVAL;
+    }
+    return true;
 }
 
 /* Makes a file where none of this name is, and fills it. Where that fails the file is removed again, and errno says what failed first. */
@@ -83,9 +122,11 @@ static bool put(const char *name, const uint8_t *bytes, size_t length) {
 bool file_put(const char *name, const uint8_t *bytes, size_t length, int *error) {
     struct sigaction quiet = {.sa_handler = on_size_limit}, before;
     sigaction(SIGXFSZ, &quiet, &before);
+    progress_begin("writing");
     errno = 0;
     bool right = put(name, bytes, length);
     *error = errno;
+    progress_end();
     sigaction(SIGXFSZ, &before, NULL);
     return right;
 }

@@ -6,7 +6,7 @@
 
 #include "odm.h"
 
-enum { KEYWORDS = 46, REASONS = 19, SIGNS = 127 }; /* one more than the last number; 0 stands for none */
+enum { KEYWORDS = 46, REASONS = 20, SIGNS = 127 }; /* one more than the last number; 0 stands for none */
 
 static const char *const keywords[KEYWORDS] = {
     [1] = "CCSDS_OPM_VERS",
@@ -57,7 +57,7 @@ static const char *const keywords[KEYWORDS] = {
 };
 
 static const char *const reasons[REASONS] = {
-    [ODM_FEED_LONG] = "the feed has more than 65535 bytes",
+    [ODM_FEED_LONG] = "the feed has more than 16777215 bytes",
     [ODM_NO_MESSAGE] = "the feed has no message of this number",
     [ODM_LONG] = "the line has more than 254 bytes",
     [ODM_BYTE] = "the line has a byte that is not plain text",
@@ -68,13 +68,14 @@ static const char *const reasons[REASONS] = {
     [ODM_UNIT] = "what follows the number is not its unit",
     [ODM_TIME_ORDER] = "the time is out of order or outside its segment",
     [ODM_SHORT] = "the message ends before it is complete",
-    [ODM_NO_ROOM] = "the message is right, but there is no room for its rows or its text",
+    [ODM_NO_ROOM] = "there is no room for the rows or the text of the message, or two tables differ in length",
     [ODM_SPENT] = "the load numbers are used up, and the load before this one stays",
     [ODM_GONE] = "this ticket is of an earlier load",
     [ODM_NO_ROW] = "the present load has no row of this number",
     [ODM_ASTRAY] = "the row is not in the table, or its value is not in the feed",
     [ODM_TOO_BIG] = "the number is too big to be rounded",
     [ODM_PLACES] = "at most 6 decimals can be had",
+    [ODM_WIDE] = "a number of the table is above 65535",
 };
 
 static const char *const signs[SIGNS] = {

@@ -20,7 +20,7 @@ const char *unit_words(uint32_t code);
 /* The word for one of the characters 32 to 126 that is no letter; for any other byte a plain remark. */
 const char *sign_word(uint8_t byte);
 
-/* Why something was refused, as a sentence, for the reasons 1 to 18; for any other number a plain remark. */
+/* Why something was refused, as a sentence, for the reasons 1 to 19; for any other number a plain remark. */
 const char *reason_words(uint32_t reason);
 
 #endif

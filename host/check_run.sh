@@ -16,4 +16,10 @@ touch crates/odm_rows/src/main.rt
 run "proving 1 crate first, which takes about 24 seconds
 "
 run ""
-echo "make run says the rows, and what it proves"
+
+# the thin program's own limit: a feed of 65,535 bytes is judged, one byte more is refused
+head -c 65291 /dev/zero | tr '\0' '\n' | cat console/sessions/whole.oem - >build/thin.feed
+[ "$(host/rows.sh build/thin.feed | head -n 1)" = "message 1 accepted rows 19" ]
+echo >>build/thin.feed
+[ "$(host/rows.sh build/thin.feed)" = "refused FEED_LONG" ]
+echo "make run says the rows, and what it proves; the thin program keeps its limit"

@@ -4,7 +4,7 @@
 #include <stdio.h>
 #include <string.h>
 
-enum { BUFFER = 1000, BEFORE = 0xa5 }; /* a buffer's length, and what each byte of it is before */
+enum { BUFFER = 1000, BEFORE = 0xa5, ROOM = 21 * ODM_ROW_BYTES }; /* a buffer's length, what each byte of it is before, and 21 rows' bytes */
 
 static int failures = 0;
 
@@ -64,10 +64,10 @@ static void check_desk(void) {
     const uint8_t *feed = (const uint8_t *)two;
     size_t length = strlen(two), start = (size_t)(strstr(two, "ORIGINATOR = A") - two) + strlen("ORIGINATOR = ");
     uint8_t table[BUFFER];
-    odm_placed placed = odm_place(0, 0, feed, length, 1, table, 210);
-    odm_row row = odm_read(placed.load, placed.count, placed.load, 4, feed, length, table, 210);
-    odm_placed refused = odm_place(placed.load, placed.count, feed, length, 2, table, 210);
-    odm_placed spent = odm_place(UINT32_MAX, 21, feed, length, 2, table, 210);
+    odm_placed placed = odm_place(0, 0, feed, length, 1, table, ROOM);
+    odm_row row = odm_read(placed.load, placed.count, placed.load, 4, feed, length, table, ROOM);
+    odm_placed refused = odm_place(placed.load, placed.count, feed, length, 2, table, ROOM);
+    odm_placed spent = odm_place(UINT32_MAX, 21, feed, length, 2, table, ROOM);
 
     same("reason of the load", placed.reason, ODM_OK);
     same("load number", placed.load, 1);
@@ -82,13 +82,14 @@ static void check_desk(void) {
     same("line of the load refused", refused.line, 2);
     same("load number after it", refused.load, 2);
     same("row count after it", refused.count, 0);
-    same("reason for too short a table", odm_place(0, 0, feed, length, 1, table, 209).reason, ODM_NO_ROOM);
+    same("reason for too short a table", odm_place(0, 0, feed, length, 1, table, ROOM - 1).reason, ODM_NO_ROOM);
     same("reason at the top load number", spent.reason, ODM_SPENT);
     same("load number after it", spent.load, UINT32_MAX);
     same("row count after it", spent.count, 21);
-    same("reason for an earlier ticket", odm_read(refused.load, refused.count, placed.load, 4, feed, length, table, 210).reason, ODM_GONE);
-    same("reason for a row too high", odm_read(1, 21, 1, 21, feed, length, table, 210).reason, ODM_NO_ROW);
-    same("reason for a feed cut short", odm_read(1, 21, 1, 4, feed, start, table, 210).reason, ODM_ASTRAY);
+    same("reason for an earlier ticket", odm_read(refused.load, refused.count, placed.load, 4, feed, length, table, ROOM).reason, ODM_GONE);
+    same("reason for a row too high", odm_read(1, 21, 1, 21, feed, length, table, ROOM).reason, ODM_NO_ROW);
+    same("reason for a feed cut short", odm_read(1, 21, 1, 4, feed, start, table, ROOM).reason, ODM_ASTRAY);
+    same("bytes of a row", ODM_ROW_BYTES, 20);
     same("size of odm_placed", sizeof placed, 16);
     same("size of odm_row", sizeof row, 24);
 }
@@ -106,6 +107,43 @@ static void check_writing(void) {
     same("place of its reason", offsetof(odm_written, reason), 0);
     same("place of its line", offsetof(odm_written, line), 4);
     same("place of its length", offsetof(odm_written, length), 8);
+}
+
+/* A table of two bytes an entry: 1, 65,535 and an odd byte; and of four: the same, and with 65,536 for the last entry. */
+static const uint8_t two_bytes[] = {1, 0, 255, 255, 7};
+static const uint8_t four_bytes[] = {1, 0, 0, 0, 255, 255, 0, 0};
+static const uint8_t too_wide[] = {1, 0, 0, 0, 0, 0, 1, 0};
+
+/* Whether a buffer begins with these bytes and all its others are as they were. */
+static int is_made(const uint8_t *buffer, const uint8_t *bytes, size_t length) {
+    size_t kept = length;
+    while (kept < BUFFER && buffer[kept] == BEFORE) kept++;
+    return kept == BUFFER && memcmp(buffer, bytes, length) == 0;
+}
+
+static void check_widths(void) {
+    uint8_t buffer[BUFFER];
+    memset(buffer, BEFORE, sizeof buffer);
+    same("reason for widening to fewer entries", odm_widen(two_bytes, sizeof two_bytes, buffer, 7), ODM_NO_ROOM);
+    same("reason for widening to more entries", odm_widen(two_bytes, sizeof two_bytes, buffer, 12), ODM_NO_ROOM);
+    same("reason for narrowing to fewer entries", odm_narrow(too_wide, sizeof too_wide, buffer, 3), ODM_NO_ROOM);
+    same("reason for narrowing a number too wide", odm_narrow(too_wide, sizeof too_wide, buffer, 4), ODM_WIDE);
+    same("whether a refusal left the buffer", is_made(buffer, buffer, 0), 1);
+    same("reason of the widening", odm_widen(two_bytes, sizeof two_bytes, buffer, 11), ODM_OK);
+    same("whether the table is widened and spare bytes kept", is_made(buffer, four_bytes, sizeof four_bytes), 1);
+    memset(buffer, BEFORE, sizeof buffer);
+    same("reason of the narrowing", odm_narrow(four_bytes, sizeof four_bytes, buffer, 5), ODM_OK);
+    same("whether the table is narrowed and the odd byte kept", is_made(buffer, two_bytes, 4), 1);
+    same("reason for widening nothing", odm_widen(NULL, 0, NULL, 0), ODM_OK);
+    same("reason for narrowing nothing", odm_narrow(NULL, 0, NULL, 0), ODM_OK);
+}
+
+/* A feed at its limit, and one byte past it. */
+static void check_limit(void) {
+    static uint8_t feed[ODM_FEED_LIMIT + 1];
+    same("feed limit", ODM_FEED_LIMIT, 16777215);
+    same("reason for a feed at its limit", odm_headings(feed, ODM_FEED_LIMIT).reason, ODM_OK);
+    same("reason for a feed past it", odm_headings(feed, sizeof feed).reason, ODM_FEED_LONG);
 }
 
 /* A text rounded: its reason, and its units with their sign. */
@@ -135,6 +173,8 @@ int main(void) {
     check_desk();
     check_writing();
     check_rounding();
+    check_widths();
+    check_limit();
     if (failures > 0) return 1;
     puts("the header's names answer as they should");
     return 0;

@@ -1,10 +1,15 @@
 /* odm.h: orbit messages for a voice. Link libodm.a (x86-64 Linux).
  *
- * A feed is bytes: at most 65,535, holding CCSDS OPM and OEM messages in keyword notation. Messages are numbered from 1, each from its
+ * A feed is bytes: at most 16,777,215, holding CCSDS OPM and OEM messages in keyword notation. Messages are numbered from 1, each from its
  * heading line to the next heading line or the end of the feed. Any bytes, any message number get an answer.
  *
  * No function keeps state, allocates, prints or needs to be set up. A null pointer with length 0 is an empty feed, table, buffer or text. Every function
  * may be called from any thread.
+ *
+ * A host of the header before this one, where a feed had at most 65,535 bytes and a table two bytes an entry: lend odm_place and odm_read a table of
+ * four bytes an entry, 20 a row where it was 10, so twice as many bytes for the same rows. Take a recorded table of two bytes an entry through
+ * odm_widen before odm_read is lent it. Wherever 65,535 was written down as the limit, for a feed's buffer or for what a file is cut at, put
+ * ODM_FEED_LIMIT. ODM_FEED_LONG now means more bytes than that. No struct, no field and no other number changed.
  */
 #ifndef ODM_H
 #define ODM_H
@@ -16,10 +21,13 @@
 extern "C" {
 #endif
 
+/* A feed's limit, and how many bytes a table needs for each row. */
+enum { ODM_FEED_LIMIT = 16777215, ODM_ROW_BYTES = 20 };
+
 /* Why something is refused. 0 means accepted, or answered. */
 enum {
     ODM_OK = 0,
-    ODM_FEED_LONG = 1,   /* the feed has more than 65,535 bytes */
+    ODM_FEED_LONG = 1,   /* the feed has more than 16,777,215 bytes */
     ODM_NO_MESSAGE = 2,  /* the message number is 0 or above the headings */
     ODM_LONG = 3,        /* a line's text has more than 254 bytes */
     ODM_BYTE = 4,        /* a line's text has a byte outside 32 to 126 */
@@ -30,13 +38,14 @@ enum {
     ODM_UNIT = 9,        /* what follows the number is not its unit */
     ODM_TIME_ORDER = 10, /* a time is before one that it must not precede, or out of its segment's span */
     ODM_SHORT = 11,      /* no line offends, but something is missing at the end */
-    ODM_NO_ROOM = 12,    /* the message is right, and the table too short for its rows, or the buffer for its text */
+    ODM_NO_ROOM = 12,    /* the message is right, and the table too short for its rows, or the buffer for its text; or two tables differ in length */
     ODM_SPENT = 13,      /* the load number is at its top */
     ODM_GONE = 14,       /* the ticket's load number is not the desk's */
     ODM_NO_ROW = 15,     /* the row number is not below the desk's count */
     ODM_ASTRAY = 16,     /* the row is not wholly in the table, or its span not in the feed */
     ODM_TOO_BIG = 17,    /* the rounded number is over 1,000,000,000,000,000 units, either way from zero */
-    ODM_PLACES = 18      /* more than six decimals are asked for */
+    ODM_PLACES = 18,     /* more than six decimals are asked for */
+    ODM_WIDE = 19        /* a number of the table is above 65,535 */
 };
 
 /* How many messages a feed has. */
@@ -59,8 +68,8 @@ odm_judged odm_judge(const uint8_t *feed, size_t feed_len, size_t message);
 /* The desk. A desk is two numbers, its load number and its row count. A fresh desk is 0 and 0. odm_place hands back the next desk on acceptance and
  * refusal alike: hand on the desk as it last came back. An older copy counts as another desk.
  *
- * The table is lent bytes: two an entry, low byte first; five entries a row: code, group, line, start, length. An acceptance fills the first
- * 10 x count bytes and keeps the others as they came, an odd last byte with them. A refusal keeps every byte.
+ * The table is lent bytes: four an entry, low byte first; five entries a row: code, group, line, start, length. An acceptance fills the first
+ * 20 x count bytes and keeps the others as they came, up to three spare ones at the end with them. A refusal keeps every byte.
  *
  * A ticket is the load number at issue and a row number, from 0. It is answered on the desk that issued it as long as no other load has come.
  */
@@ -114,6 +123,14 @@ typedef struct {
 
 /* decimals is from 0 to 6. */
 odm_rounded odm_round(const uint8_t *text, size_t text_len, uint32_t decimals);
+
+/* Recorded tables of two bytes an entry, as odm_place filled them before feeds grew past 65,535 bytes. odm_widen makes one a table of four bytes an
+ * entry, in which odm_read finds each row as it was; odm_narrow makes it two bytes again. Both answer a reason alone: ODM_OK; ODM_NO_ROOM, checked
+ * first, if the two tables have not as many entries, narrow_len / 2 and wide_len / 4; and odm_narrow ODM_WIDE exactly if some entry, in a row or not,
+ * is above 65,535. On a refusal every byte of the table that was to be made is as it was; else up to three spare bytes at its end are.
+ */
+uint32_t odm_widen(const uint8_t *narrow, size_t narrow_len, uint8_t *wide, size_t wide_len);
+uint32_t odm_narrow(const uint8_t *wide, size_t wide_len, uint8_t *narrow, size_t narrow_len);
 
 #ifdef __cplusplus
 }

@@ -1,22 +1,28 @@
 /* A small host over the product's C face. It reads requests from standard input and writes answers to standard output,
  * so that the comparer can run it as a child process, under an emulator if need be. All numbers are low byte first.
- * A block is a u32 length and so many bytes.
+ * A block is a u32 length and so many bytes. A feed is a u32 form and what goes with it: 1 and a block; 2 for padding, that is u32 length, u32
+ * byte and a block, which stands in front and is followed by that byte up to the length; or 3 and nothing more, for the feed of the request before,
+ * so that a long feed is sent once for all that is asked about it.
  *
- * Judge:  u32 kind (1), a feed as a block, u32 how many message numbers, each of them a u64.
+ * Judge:  u32 kind (1), a feed, u32 how many message numbers, each of them a u64.
  * Answer: u32 reason and u32 count of odm_headings, then for each message number u32 reason, u32 line, u32 rows.
  *
- * Place:  u32 kind (2), u32 load and u32 count of the desk, a feed as a block, u64 message number, a table as a block.
+ * Place:  u32 kind (2), u32 load and u32 count of the desk, a feed, u64 message number, a table as a block.
  * Answer: u32 load, u32 count, u32 reason, u32 line, then every byte of the table.
  *
- * Read:   u32 kind (3), u32 load and u32 count of the desk, a feed and a table as blocks, u32 how many tickets, each of them
+ * Read:   u32 kind (3), u32 load and u32 count of the desk, a feed, a table as a block, u32 how many tickets, each of them
  *         u32 load and u32 row.
  * Answer: for each ticket u32 reason, u32 code, u32 group, u32 line, u32 start, u32 length, then every byte of the table.
  *
- * Write:  u32 kind (4), a feed as a block, u64 message number, a buffer as a block.
+ * Write:  u32 kind (4), a feed, u64 message number, a buffer as a block.
  * Answer: u32 reason, u32 line, u32 length, then every byte of the buffer.
  *
  * Say:    u32 kind (5), a text as a block, u32 decimals.
  * Answer: u32 reason, u64 units, the bits of the signed number as they stand.
+ *
+ * Widen:  u32 kind (6), a narrow and a wide table as blocks.
+ * Narrow: u32 kind (7), a wide and a narrow table as blocks.
+ * Answer: u32 reason, then every byte of either table, in the order in which they were sent.
  */
 #define _DEFAULT_SOURCE
 #include <stddef.h>
@@ -29,7 +35,9 @@
 
 #include "odm.h"
 
-enum { JUDGE = 1, PLACE = 2, READ = 3, WRITE = 4, SAY = 5, BUFFER = 1 << 16 };
+enum { JUDGE = 1, PLACE = 2, READ = 3, WRITE = 4, SAY = 5, WIDEN = 6, NARROW = 7 };
+enum { WHOLE = 1, PADDED = 2, AGAIN = 3 };
+enum { BUFFER = 1 << 16 };
 
 static uint8_t in[BUFFER], out[BUFFER];
 static size_t in_at, in_end, out_end;
@@ -40,33 +48,47 @@ static void refuse(const char *why) {
     exit(1);
 }
 
-static void flush(void) {
-    size_t at = 0;
-    while (at < out_end) {
-        ssize_t written = write(1, out + at, out_end - at);
+static void write_all(const uint8_t *from, size_t count) {
+    while (count > 0) {
+        ssize_t written = write(1, from, count);
         if (written <= 0) refuse("the answers could not be written");
-        at += (size_t)written;
+        from += written;
+        count -= (size_t)written;
     }
+}
+
+static void flush(void) {
+    write_all(out, out_end);
     out_end = 0;
 }
 
-/* Gets more input. Answers go out first, since the other side may be waiting for them. */
-static int fill(void) {
+/* Gets some input. Answers go out first, since the other side may be waiting for them. */
+static size_t read_some(uint8_t *to, size_t most) {
     flush();
-    ssize_t got = read(0, in, BUFFER);
+    ssize_t got = read(0, to, most);
     if (got < 0) refuse("the requests could not be read");
-    in_at = 0;
-    in_end = (size_t)got;
-    return got > 0;
+    return (size_t)got;
 }
 
-/* Takes exactly so many bytes; the input may end only between requests. */
+static int fill(void) {
+    in_at = 0;
+    in_end = read_some(in, BUFFER);
+    return in_end > 0;
+}
+
+/* Takes exactly so many bytes; the input may end only between requests. What is longer than the buffer goes past it, straight to its place. */
 static void take(uint8_t *to, size_t count) {
     while (count > 0) {
-        if (in_at == in_end && !fill()) refuse("the input ended within a request");
         size_t part = in_end - in_at < count ? in_end - in_at : count;
-        memcpy(to, in + in_at, part);
-        in_at += part;
+        if (part > 0) {
+            memcpy(to, in + in_at, part);
+            in_at += part;
+        } else if (count >= BUFFER) {
+            part = read_some(to, count);
+            if (part == 0) refuse("the input ended within a request");
+        } else if (!fill()) {
+            refuse("the input ended within a request");
+        }
         to += part;
         count -= part;
     }
@@ -85,6 +107,11 @@ static uint32_t take_u32(void) {
 }
 
 static void put_bytes(const uint8_t *from, size_t count) {
+    if (count >= BUFFER) {
+        flush();
+        write_all(from, count);
+        return;
+    }
     while (count > 0) {
         if (out_end == BUFFER) flush();
         size_t part = BUFFER - out_end < count ? BUFFER - out_end : count;
@@ -107,33 +134,88 @@ typedef struct {
     size_t length;
 } block;
 
-/* A region whose last page may not be touched. A block ends where that page begins, so a read or a write past its end stops the program, also in
+/* Room that ends where a page begins that may not be touched. A block ends there too, so a read or a write past its end stops the program, also in
  * code that no sanitizer has instrumented. */
-enum { FENCED = 1 << 22 };
+typedef struct {
+    uint8_t *end;
+    size_t size;
+} room;
 
-static uint8_t *fence(void) {
+/* Room grows by whole steps of this many bytes, a multiple of any page's size. */
+enum { STEP = 1 << 20 };
+
+/* Sees to it that there is room for so many bytes; says whether it is new. What stood there is gone then. */
+static int make_room(room *room, size_t wanted) {
+    if (wanted <= room->size) return 0;
     size_t page = (size_t)sysconf(_SC_PAGESIZE);
-    uint8_t *region = mmap(NULL, FENCED + page, PROT_READ | PROT_WRITE, MAP_PRIVATE | MAP_ANONYMOUS, -1, 0);
+    size_t size = (wanted + STEP - 1) / STEP * STEP;
+    if (room->size > 0 && munmap(room->end - room->size, room->size + page) != 0) refuse("room could not be given back");
+    uint8_t *region = mmap(NULL, size + page, PROT_READ | PROT_WRITE, MAP_PRIVATE | MAP_ANONYMOUS, -1, 0);
     if (region == MAP_FAILED) refuse("no memory for a feed, a table, a buffer or a text");
-    if (mprotect(region + FENCED, page, PROT_NONE) != 0) refuse("a page could not be fenced");
-    return region + FENCED;
+    if (mprotect(region + size, page, PROT_NONE) != 0) refuse("a page could not be fenced");
+    room->end = region + size;
+    room->size = size;
+    return 1;
 }
 
 /* A feed, a table, a buffer or a text against its own fence; a null pointer where it is empty. */
-static block take_block(uint8_t **end) {
+static block take_block(room *room) {
     block taken = {NULL, take_u32()};
     if (taken.length == 0) return taken;
-    if (taken.length > FENCED) refuse("a feed, a table, a buffer or a text is too long for this host");
-    if (*end == NULL) *end = fence();
-    taken.bytes = *end - taken.length;
+    make_room(room, taken.length);
+    taken.bytes = room->end - taken.length;
     take(taken.bytes, taken.length);
     return taken;
 }
 
-static uint8_t *feed_end, *table_end, *buffer_end, *text_end;
+/* Room that is full of one byte, but for a part that the last front was laid over. */
+typedef struct {
+    room room;
+    uint8_t *laid;
+    size_t length;
+} padding;
+
+static padding paddings[256];
+
+/* A padded feed: its front is laid over room that is full of the byte already, so a long one costs no more than its front. */
+static block take_padded(void) {
+    block taken = {NULL, take_u32()};
+    uint8_t byte = (uint8_t)take_u32();
+    padding *padding = &paddings[byte];
+    size_t front = take_u32();
+    if (taken.length == 0 || front > taken.length) refuse("a feed whose padding is nothing");
+    if (make_room(&padding->room, taken.length)) {
+        memset(padding->room.end - padding->room.size, byte, padding->room.size);
+    } else {
+        memset(padding->laid, byte, padding->length);
+    }
+    taken.bytes = padding->room.end - taken.length;
+    padding->laid = taken.bytes;
+    padding->length = front;
+    take(taken.bytes, front);
+    return taken;
+}
+
+static room feeds, tables, others, buffers, texts;
+
+/* A feed in any form. The one that was sent last is as it was: it is lent to be read alone, and its room is given to no other block. */
+static block take_feed(void) {
+    static block feed;
+    static int is_there;
+    uint32_t form = take_u32();
+    if (form == WHOLE) {
+        feed = take_block(&feeds);
+    } else if (form == PADDED) {
+        feed = take_padded();
+    } else if (form != AGAIN || !is_there) {
+        refuse("a feed in an unknown form, or none before");
+    }
+    is_there = 1;
+    return feed;
+}
 
 static void answer_judge(void) {
-    block feed = take_block(&feed_end);
+    block feed = take_feed();
     odm_counted counted = odm_headings(feed.bytes, feed.length);
     put_number(counted.reason);
     put_number(counted.count);
@@ -148,9 +230,9 @@ static void answer_judge(void) {
 static void answer_place(void) {
     uint32_t load = take_u32();
     uint32_t count = take_u32();
-    block feed = take_block(&feed_end);
+    block feed = take_feed();
     size_t message = (size_t)take_number(8);
-    block table = take_block(&table_end);
+    block table = take_block(&tables);
     odm_placed placed = odm_place(load, count, feed.bytes, feed.length, message, table.bytes, table.length);
     put_number(placed.load);
     put_number(placed.count);
@@ -163,8 +245,8 @@ static void answer_place(void) {
 static void answer_read(void) {
     uint32_t load = take_u32();
     uint32_t count = take_u32();
-    block feed = take_block(&feed_end);
-    block table = take_block(&table_end);
+    block feed = take_feed();
+    block table = take_block(&tables);
     for (uint32_t left = take_u32(); left > 0; left--) {
         uint32_t ticket_load = take_u32();
         uint32_t ticket_row = take_u32();
@@ -180,9 +262,9 @@ static void answer_read(void) {
 }
 
 static void answer_write(void) {
-    block feed = take_block(&feed_end);
+    block feed = take_feed();
     size_t message = (size_t)take_number(8);
-    block buffer = take_block(&buffer_end);
+    block buffer = take_block(&buffers);
     odm_written written = odm_write(feed.bytes, feed.length, message, buffer.bytes, buffer.length);
     put_number(written.reason);
     put_number(written.line);
@@ -191,13 +273,22 @@ static void answer_write(void) {
 }
 
 static void answer_say(void) {
-    block text = take_block(&text_end);
+    block text = take_block(&texts);
     uint32_t decimals = take_u32();
     odm_rounded rounded = odm_round(text.bytes, text.length, decimals);
     uint64_t units = (uint64_t)rounded.units;
     put_number(rounded.reason);
     put_number((uint32_t)units);
     put_number((uint32_t)(units >> 32));
+}
+
+/* A widening or a narrowing; both tables go back, to show that the first is as it was. */
+static void answer_move(uint32_t (*move)(const uint8_t *, size_t, uint8_t *, size_t)) {
+    block from = take_block(&tables);
+    block into = take_block(&others);
+    put_number(move(from.bytes, from.length, into.bytes, into.length));
+    put_bytes(from.bytes, from.length);
+    put_bytes(into.bytes, into.length);
 }
 
 int main(void) {
@@ -214,6 +305,10 @@ int main(void) {
             answer_write();
         } else if (kind == SAY) {
             answer_say();
+        } else if (kind == WIDEN) {
+            answer_move(odm_widen);
+        } else if (kind == NARROW) {
+            answer_move(odm_narrow);
         } else {
             refuse("a request of an unknown kind");
         }

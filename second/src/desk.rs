@@ -1,10 +1,10 @@
 //! Desk, table and tickets. Nothing is changed in place: a load answers with the next desk and a whole new table.
-//! A table is an image, a list of 16-bit numbers with at most one byte over, and the new image is laid over the old one.
+//! A table is an image, a list of 32-bit numbers with at most three bytes over, and the new image is laid over the old one.
 
+use crate::bytes::Bytes;
 use crate::judge::{judge, Answer, Reason, Row};
-use std::rc::Rc;
 
-/// What goes well has this number; the refusals are document 01's, the last two request (v)'s.
+/// What goes well has this number; the refusals are document 01's, the last three those of requests (v) and (vi).
 pub const FINE: u32 = 0;
 pub const NO_ROOM: u32 = 12;
 pub const SPENT: u32 = 13;
@@ -13,6 +13,7 @@ pub const NO_ROW: u32 = 15;
 pub const ASTRAY: u32 = 16;
 pub const TOO_BIG: u32 = 17;
 pub const PLACES: u32 = 18;
+pub const WIDE: u32 = 19;
 
 /// The documents' name for a reason, judging's own among them.
 pub fn reason_name(number: u32) -> Option<&'static str> {
@@ -24,6 +25,7 @@ pub fn reason_name(number: u32) -> Option<&'static str> {
         ASTRAY => Some("ASTRAY"),
         TOO_BIG => Some("TOO_BIG"),
         PLACES => Some("PLACES"),
+        WIDE => Some("WIDE"),
         _ => Reason::of_number(number).map(Reason::name),
     }
 }
@@ -48,7 +50,7 @@ pub struct Ticket {
 #[derive(Clone, Debug)]
 pub struct Load {
     pub desk: Desk,
-    pub feed: Rc<[u8]>,
+    pub feed: Bytes,
     pub message: u64,
     pub table: Vec<u8>,
 }
@@ -66,7 +68,7 @@ pub struct Placed {
 #[derive(Clone, Debug)]
 pub struct Reading {
     pub desk: Desk,
-    pub feed: Rc<[u8]>,
+    pub feed: Bytes,
     pub table: Vec<u8>,
     pub tickets: Vec<Ticket>,
 }
@@ -74,28 +76,30 @@ pub struct Reading {
 /// What a ticket hears: its row, or why not.
 pub type Heard = Result<Row, u32>;
 
-/// A table's whole entries, and what is left over: nothing or one byte.
+/// A table's whole entries, and what is left over: up to three bytes.
 struct Image {
-    entries: Vec<u16>,
+    entries: Vec<u32>,
     over: Vec<u8>,
 }
 
 impl Image {
     fn of(table: &[u8]) -> Image {
-        let pairs = table.chunks_exact(2);
-        let over = pairs.remainder().to_vec();
-        Image { entries: pairs.map(|pair| u16::from(pair[0]) + 256 * u16::from(pair[1])).collect(), over }
+        let fours = table.chunks_exact(4);
+        let over = fours.remainder().to_vec();
+        // The highest byte is the last, so a number is told from there on.
+        let number = |four: &[u8]| four.iter().rev().fold(0, |number, byte| 256 * number + u32::from(*byte));
+        Image { entries: fours.map(number).collect(), over }
     }
 
     /// This image with other numbers in front; nothing if it has fewer entries than they are.
-    fn under(self, front: Vec<u16>) -> Option<Image> {
+    fn under(self, front: Vec<u32>) -> Option<Image> {
         let kept = self.entries.get(front.len()..)?;
         Some(Image { entries: [&front, kept].concat(), over: self.over })
     }
 
     fn bytes(&self) -> Vec<u8> {
-        let low_then_high = |entry: &u16| [(entry % 256) as u8, (entry / 256) as u8];
-        self.entries.iter().flat_map(low_then_high).chain(self.over.iter().copied()).collect()
+        let low_to_high = |entry: &u32| [1, 256, 65_536, 16_777_216].map(|place| (entry / place % 256) as u8);
+        self.entries.iter().flat_map(low_to_high).chain(self.over.iter().copied()).collect()
     }
 
     /// The row with this number, if all five of its entries are here.
@@ -106,7 +110,7 @@ impl Image {
     }
 }
 
-fn entries(row: &Row) -> [u16; 5] {
+fn entries(row: &Row) -> [u32; 5] {
     [row.code, row.group, row.line, row.start, row.length]
 }
 
@@ -148,56 +152,60 @@ fn hear(desk: Desk, ticket: Ticket, feed: &[u8], image: &Image) -> Heard {
 
 /// The part of the feed that a row speaks of, if all of it is there.
 pub fn value<'f>(feed: &'f [u8], row: &Row) -> Option<&'f [u8]> {
-    let start = usize::from(row.start);
-    feed.get(start..start + usize::from(row.length))
+    let start = row.start as usize;
+    feed.get(start..start + row.length as usize)
 }
 
 #[cfg(test)]
 mod tests {
     use super::*;
 
-    const ROW: Row = Row { code: 1, group: 2, line: 3, start: 4, length: 0x0506 };
+    const ONE: Row = Row { code: 1, group: 2, line: 3, start: 4, length: 0x0506_0708 };
 
     #[test]
     fn an_image_comes_back_as_it_was() {
-        for size in 0..9 {
-            let table: Vec<u8> = (0..size).map(|at| at * 31).collect();
+        for size in 0..17 {
+            let table: Vec<u8> = (0..size).map(|at| at * 13 + 47).collect();
             let image = Image::of(&table);
-            assert_eq!((image.entries.len(), image.over.len()), (usize::from(size / 2), usize::from(size % 2)));
+            assert_eq!((image.entries.len(), image.over.len()), (usize::from(size / 4), usize::from(size % 4)));
             assert_eq!(image.bytes(), table);
         }
     }
 
     #[test]
     fn entries_are_low_byte_first() {
-        assert_eq!(Image::of(&[1, 2, 255, 0, 9]).entries, [0x0201, 0x00FF]);
-        let image = Image::of(&[7; 11]).under(entries(&ROW).to_vec()).expect("there is room");
-        assert_eq!(image.bytes(), [1, 0, 2, 0, 3, 0, 4, 0, 6, 5, 7]);
-        assert_eq!(image.row(0), Some(ROW));
+        assert_eq!(Image::of(&[1, 2, 3, 4, 255, 0, 0, 0, 255, 255, 255, 255, 9]).entries, [0x0403_0201, 0xFF, u32::MAX]);
+        let image = Image::of(&[7; 23]).under(entries(&ONE).to_vec()).expect("there is room");
+        assert_eq!(image.bytes(), [1, 0, 0, 0, 2, 0, 0, 0, 3, 0, 0, 0, 4, 0, 0, 0, 8, 7, 6, 5, 7, 7, 7]);
+        assert_eq!(image.row(0), Some(ONE));
         assert_eq!(image.row(1), None);
     }
 
     #[test]
     fn what_does_not_fit_is_not_laid() {
-        for size in 0..10 {
-            assert!(Image::of(&vec![7; size]).under(entries(&ROW).to_vec()).is_none());
+        for size in 0..20 {
+            assert!(Image::of(&vec![7; size]).under(entries(&ONE).to_vec()).is_none());
         }
         assert!(Image::of(&[]).under(Vec::new()).is_some());
     }
 
     #[test]
     fn an_empty_value_may_stand_at_the_end() {
-        let row = |start, length| Row { start, length, ..ROW };
+        let row = |start, length| Row { start, length, ..ONE };
         assert_eq!(value(b"abc", &row(1, 2)), Some(&b"bc"[..]));
         assert_eq!(value(b"abc", &row(3, 0)), Some(&b""[..]));
         assert_eq!(value(b"abc", &row(3, 1)), None);
         assert_eq!(value(b"abc", &row(4, 0)), None);
         assert_eq!(value(&[0; 65_534], &row(65_535, 65_535)), None);
+        // Both numbers at their top are 2 to the 33rd less two, and nothing in 32 bits.
+        assert_eq!(value(b"abc", &row(u32::MAX, u32::MAX)), None);
+        assert_eq!(value(b"abc", &row(1, u32::MAX)), None);
+        assert_eq!(value(b"abc", &row(u32::MAX, 1)), None);
     }
 
     #[test]
     fn every_reason_has_a_name() {
-        assert!((1..=18).all(|number| reason_name(number).is_some()));
-        assert!([0, 19, u32::MAX].into_iter().all(|number| reason_name(number).is_none()));
+        assert!((1..=19).all(|number| reason_name(number).is_some()));
+        assert!([0, 20, u32::MAX].into_iter().all(|number| reason_name(number).is_none()));
     }
 }

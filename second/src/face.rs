@@ -1,11 +1,14 @@
 //! Asks the product's C face, which runs as a child process, for its answers.
 //!
-//! There is a kind of request for each thing that is asked: judging, placing, reading, writing and saying. Feeds, tables, buffers and texts go over
-//! whole, and so do the table and the buffer on their way back. `face.c` says byte by byte what a request and its answer are.
+//! There is a kind of request for each thing that is asked: judging, placing, reading, writing, saying, widening and narrowing. Tables, buffers and
+//! texts go over whole, and so do the tables and the buffer on their way back. A feed goes over once for all that is asked about it in a row, and
+//! its padding not at all. `face.c` says byte by byte what a request and its answer are.
 
+use crate::bytes::{Bytes, Padded};
 use crate::desk::{Desk, Load, Reading};
 use crate::say::{Said, Saying};
 use crate::send::{Sending, Sent};
+use crate::widths::{Moved, Moving, Way};
 use std::io::{BufReader, Read, Write};
 use std::process::{Child, ChildStdin, ChildStdout, Command, Stdio};
 use std::sync::mpsc::{sync_channel, SyncSender};
@@ -17,6 +20,13 @@ const PLACE: u32 = 2;
 const READ: u32 = 3;
 const WRITE: u32 = 4;
 const SAY: u32 = 5;
+const WIDEN: u32 = 6;
+const NARROW: u32 = 7;
+
+/// The forms of a feed.
+const WHOLE: u32 = 1;
+const PADDED: u32 = 2;
+const AGAIN: u32 = 3;
 
 /// What the face says of one message: reason, line and rows, as the C struct has them.
 #[derive(Clone, Copy, Debug, PartialEq, Eq)]
@@ -46,6 +56,13 @@ pub struct ToldLoad {
 pub struct ToldRows {
     pub rows: Vec<[u32; 6]>,
     pub table: Vec<u8>,
+}
+
+/// What the face says of a moving, and the table that the entries came from as it is then.
+#[derive(Clone, Debug, PartialEq, Eq)]
+pub struct ToldMove {
+    pub from: Vec<u8>,
+    pub moved: Moved,
 }
 
 /// The child process, with a thread that writes to it so that neither side waits for the other.
@@ -115,6 +132,13 @@ impl Face {
         Ok(Said { reason, units: i64::from_le_bytes(units) })
     }
 
+    /// The next answer, for a request to widen or narrow.
+    pub fn next_moved(&mut self, moving: &Moving) -> Result<ToldMove, String> {
+        let [reason] = self.numbers()?;
+        let from = self.bytes(moving.from.len())?;
+        Ok(ToldMove { from, moved: Moved { reason, into: self.bytes(moving.into.len())? } })
+    }
+
     fn numbers<const N: usize>(&mut self) -> Result<[u32; N], String> {
         let mut numbers = [0; N];
         for number in &mut numbers {
@@ -176,67 +200,121 @@ fn start_writer(mut stdin: ChildStdin) -> (SyncSender<Vec<u8>>, JoinHandle<()>) 
     (requests, writer)
 }
 
-/// Adds a request to count headings and judge messages to a batch.
-pub fn add_judge(batch: &mut Vec<u8>, feed: &[u8], messages: &[u64]) {
-    add_number(batch, JUDGE);
-    add_block(batch, feed);
-    add_size(batch, messages.len());
-    messages.iter().for_each(|message| batch.extend_from_slice(&message.to_le_bytes()));
+/// Requests as they are gathered, with the feed that the face has from the request before, so that it is not sent twice.
+/// They are those of one face, from its first request on.
+#[derive(Default)]
+pub struct Requests {
+    bytes: Vec<u8>,
+    held: Option<Bytes>,
 }
 
-/// Adds a request to place a message to a batch.
-pub fn add_place(batch: &mut Vec<u8>, load: &Load) {
-    add_number(batch, PLACE);
-    add_desk(batch, load.desk);
-    add_block(batch, &load.feed);
-    batch.extend_from_slice(&load.message.to_le_bytes());
-    add_block(batch, &load.table);
-}
-
-/// Adds a request to read tickets to a batch.
-pub fn add_read(batch: &mut Vec<u8>, reading: &Reading) {
-    add_number(batch, READ);
-    add_desk(batch, reading.desk);
-    add_block(batch, &reading.feed);
-    add_block(batch, &reading.table);
-    add_size(batch, reading.tickets.len());
-    for ticket in &reading.tickets {
-        add_number(batch, ticket.load);
-        add_number(batch, ticket.row);
+impl Requests {
+    /// How many bytes have been gathered since a batch was taken.
+    pub fn size(&self) -> usize {
+        self.bytes.len()
     }
-}
 
-/// Adds a request to write a message to a batch.
-pub fn add_write(batch: &mut Vec<u8>, sending: &Sending) {
-    add_number(batch, WRITE);
-    add_block(batch, &sending.feed);
-    batch.extend_from_slice(&sending.message.to_le_bytes());
-    add_block(batch, &sending.buffer);
-}
+    /// What has been gathered, to be handed to the face.
+    pub fn take(&mut self) -> Vec<u8> {
+        std::mem::take(&mut self.bytes)
+    }
 
-/// Adds a request to say a number to a batch.
-pub fn add_say(batch: &mut Vec<u8>, saying: &Saying) {
-    add_number(batch, SAY);
-    add_block(batch, &saying.text);
-    add_number(batch, saying.decimals);
-}
+    /// Adds a request to count headings and judge messages.
+    pub fn add_judge(&mut self, feed: &Bytes, messages: &[u64]) {
+        self.add_number(JUDGE);
+        self.add_feed(feed);
+        self.add_size(messages.len());
+        messages.iter().for_each(|message| self.add_message(*message));
+    }
 
-fn add_number(batch: &mut Vec<u8>, number: u32) {
-    batch.extend_from_slice(&number.to_le_bytes());
-}
+    /// Adds a request to place a message.
+    pub fn add_place(&mut self, load: &Load) {
+        self.add_number(PLACE);
+        self.add_desk(load.desk);
+        self.add_feed(&load.feed);
+        self.add_message(load.message);
+        self.add_block(&load.table);
+    }
 
-fn add_size(batch: &mut Vec<u8>, size: usize) {
-    add_number(batch, u32::try_from(size).expect("nothing made here is that long"));
-}
+    /// Adds a request to read tickets.
+    pub fn add_read(&mut self, reading: &Reading) {
+        self.add_number(READ);
+        self.add_desk(reading.desk);
+        self.add_feed(&reading.feed);
+        self.add_block(&reading.table);
+        self.add_size(reading.tickets.len());
+        for ticket in &reading.tickets {
+            self.add_number(ticket.load);
+            self.add_number(ticket.row);
+        }
+    }
 
-fn add_desk(batch: &mut Vec<u8>, desk: Desk) {
-    add_number(batch, desk.load);
-    add_number(batch, desk.count);
-}
+    /// Adds a request to write a message.
+    pub fn add_write(&mut self, sending: &Sending) {
+        self.add_number(WRITE);
+        self.add_feed(&sending.feed);
+        self.add_message(sending.message);
+        self.add_block(&sending.buffer);
+    }
 
-fn add_block(batch: &mut Vec<u8>, bytes: &[u8]) {
-    add_size(batch, bytes.len());
-    batch.extend_from_slice(bytes);
+    /// Adds a request to say a number.
+    pub fn add_say(&mut self, saying: &Saying) {
+        self.add_number(SAY);
+        self.add_block(&saying.text);
+        self.add_number(saying.decimals);
+    }
+
+    /// Adds a request to widen or narrow a table.
+    pub fn add_move(&mut self, moving: &Moving) {
+        self.add_number(match moving.way {
+            Way::Widen => WIDEN,
+            Way::Narrow => NARROW,
+        });
+        self.add_block(&moving.from);
+        self.add_block(&moving.into);
+    }
+
+    fn add_number(&mut self, number: u32) {
+        self.bytes.extend_from_slice(&number.to_le_bytes());
+    }
+
+    fn add_size(&mut self, size: usize) {
+        self.add_number(u32::try_from(size).expect("nothing made here is that long"));
+    }
+
+    fn add_message(&mut self, message: u64) {
+        self.bytes.extend_from_slice(&message.to_le_bytes());
+    }
+
+    fn add_desk(&mut self, desk: Desk) {
+        self.add_number(desk.load);
+        self.add_number(desk.count);
+    }
+
+    fn add_block(&mut self, bytes: &[u8]) {
+        self.add_size(bytes.len());
+        self.bytes.extend_from_slice(bytes);
+    }
+
+    /// The feed, or what is enough to know it by.
+    fn add_feed(&mut self, feed: &Bytes) {
+        if self.held.as_ref().is_some_and(|held| held.is(feed)) {
+            return self.add_number(AGAIN);
+        }
+        self.held = Some(feed.clone());
+        match feed.padding() {
+            None => {
+                self.add_number(WHOLE);
+                self.add_block(feed);
+            }
+            Some(Padded { front, byte }) => {
+                self.add_number(PADDED);
+                self.add_size(feed.len());
+                self.add_number(byte.into());
+                self.add_block(front);
+            }
+        }
+    }
 }
 
 #[cfg(test)]
@@ -246,47 +324,85 @@ mod tests {
 
     #[test]
     fn a_request_to_judge_is_written_low_byte_first() {
-        let mut batch = Vec::new();
-        add_judge(&mut batch, b"ab", &[1, 0x0102]);
-        assert_eq!(batch, [1, 0, 0, 0, 2, 0, 0, 0, b'a', b'b', 2, 0, 0, 0, 1, 0, 0, 0, 0, 0, 0, 0, 2, 1, 0, 0, 0, 0, 0, 0]);
+        let mut requests = Requests::default();
+        requests.add_judge(&b"ab"[..].into(), &[1, 0x0102]);
+        let batch = requests.take();
+        assert_eq!(batch, [1, 0, 0, 0, 1, 0, 0, 0, 2, 0, 0, 0, b'a', b'b', 2, 0, 0, 0, 1, 0, 0, 0, 0, 0, 0, 0, 2, 1, 0, 0, 0, 0, 0, 0]);
     }
 
     #[test]
     fn a_request_to_place_is_written_low_byte_first() {
-        let mut batch = Vec::new();
+        let mut requests = Requests::default();
         let desk = Desk { load: 0x0304, count: 5 };
-        add_place(&mut batch, &Load { desk, feed: b"ab"[..].into(), message: 0x0607, table: vec![9] });
-        let feed = [2, 0, 0, 0, b'a', b'b'];
+        requests.add_place(&Load { desk, feed: b"ab"[..].into(), message: 0x0607, table: vec![9] });
+        let feed = [1, 0, 0, 0, 2, 0, 0, 0, b'a', b'b'];
         let message = [7, 6, 0, 0, 0, 0, 0, 0];
-        assert_eq!(batch, [&[2, 0, 0, 0, 4, 3, 0, 0, 5, 0, 0, 0][..], &feed, &message, &[1, 0, 0, 0, 9]].concat());
+        assert_eq!(requests.take(), [&[2, 0, 0, 0, 4, 3, 0, 0, 5, 0, 0, 0][..], &feed, &message, &[1, 0, 0, 0, 9]].concat());
     }
 
     #[test]
     fn a_request_to_read_is_written_low_byte_first() {
-        let mut batch = Vec::new();
+        let mut requests = Requests::default();
         let tickets = vec![Ticket { load: 0x0102, row: 3 }];
-        add_read(&mut batch, &Reading { desk: Desk { load: 4, count: 5 }, feed: b"a"[..].into(), table: Vec::new(), tickets });
-        let blocks = [1, 0, 0, 0, b'a', 0, 0, 0, 0];
-        assert_eq!(batch, [&[3, 0, 0, 0, 4, 0, 0, 0, 5, 0, 0, 0][..], &blocks, &[1, 0, 0, 0, 2, 1, 0, 0, 3, 0, 0, 0]].concat());
+        requests.add_read(&Reading { desk: Desk { load: 4, count: 5 }, feed: b"a"[..].into(), table: Vec::new(), tickets });
+        let blocks = [1, 0, 0, 0, 1, 0, 0, 0, b'a', 0, 0, 0, 0];
+        assert_eq!(requests.take(), [&[3, 0, 0, 0, 4, 0, 0, 0, 5, 0, 0, 0][..], &blocks, &[1, 0, 0, 0, 2, 1, 0, 0, 3, 0, 0, 0]].concat());
     }
 
     #[test]
     fn a_request_to_write_is_written_low_byte_first() {
-        let mut batch = Vec::new();
-        add_write(&mut batch, &Sending { feed: b"ab"[..].into(), message: 0x0607, buffer: vec![9, 8] });
-        let feed = [2, 0, 0, 0, b'a', b'b'];
+        let mut requests = Requests::default();
+        requests.add_write(&Sending { feed: b"ab"[..].into(), message: 0x0607, buffer: vec![9, 8] });
+        let feed = [1, 0, 0, 0, 2, 0, 0, 0, b'a', b'b'];
         let message = [7, 6, 0, 0, 0, 0, 0, 0];
-        assert_eq!(batch, [&[4, 0, 0, 0][..], &feed, &message, &[2, 0, 0, 0, 9, 8]].concat());
+        assert_eq!(requests.take(), [&[4, 0, 0, 0][..], &feed, &message, &[2, 0, 0, 0, 9, 8]].concat());
     }
 
     #[test]
     fn a_request_to_say_is_written_low_byte_first() {
-        let mut batch = Vec::new();
-        add_say(&mut batch, &Saying { text: b"-0.4".to_vec(), decimals: 0x0102_0304 });
-        assert_eq!(batch, [&[5, 0, 0, 0, 4, 0, 0, 0][..], b"-0.4", &[4, 3, 2, 1]].concat());
-        batch.clear();
-        add_say(&mut batch, &Saying { text: Vec::new(), decimals: 6 });
-        assert_eq!(batch, [5, 0, 0, 0, 0, 0, 0, 0, 6, 0, 0, 0]);
+        let mut requests = Requests::default();
+        requests.add_say(&Saying { text: b"-0.4".to_vec(), decimals: 0x0102_0304 });
+        assert_eq!(requests.take(), [&[5, 0, 0, 0, 4, 0, 0, 0][..], b"-0.4", &[4, 3, 2, 1]].concat());
+        requests.add_say(&Saying { text: Vec::new(), decimals: 6 });
+        assert_eq!(requests.take(), [5, 0, 0, 0, 0, 0, 0, 0, 6, 0, 0, 0]);
+    }
+
+    #[test]
+    fn a_request_to_move_is_written_source_first() {
+        let mut requests = Requests::default();
+        requests.add_move(&Moving { way: Way::Widen, from: vec![1, 2], into: vec![3] });
+        assert_eq!(requests.take(), [6, 0, 0, 0, 2, 0, 0, 0, 1, 2, 1, 0, 0, 0, 3]);
+        requests.add_move(&Moving { way: Way::Narrow, from: Vec::new(), into: vec![3] });
+        assert_eq!(requests.take(), [7, 0, 0, 0, 0, 0, 0, 0, 1, 0, 0, 0, 3]);
+    }
+
+    #[test]
+    fn a_feed_is_sent_once_and_its_padding_not_at_all() {
+        let mut requests = Requests::default();
+        let padded = Bytes::padded(&b"ab"[..], 0x0203_0405, b'\n');
+        requests.add_judge(&padded, &[]);
+        let form = [2, 0, 0, 0, 5, 4, 3, 2, 10, 0, 0, 0, 2, 0, 0, 0, b'a', b'b'];
+        assert_eq!(requests.take(), [&[1, 0, 0, 0][..], &form, &[0; 4]].concat());
+        let again = [1, 0, 0, 0, 3, 0, 0, 0, 0, 0, 0, 0];
+        requests.add_judge(&padded.clone(), &[]);
+        assert_eq!(requests.size(), 12);
+        assert_eq!(requests.take(), again);
+        let other: Bytes = b"ab"[..].into();
+        requests.add_judge(&other, &[]);
+        requests.add_judge(&other, &[]);
+        requests.add_judge(&padded, &[]);
+        let whole = [1, 0, 0, 0, 1, 0, 0, 0, 2, 0, 0, 0, b'a', b'b', 0, 0, 0, 0];
+        assert_eq!(requests.take(), [&whole[..], &again, &[1, 0, 0, 0], &form, &[0; 4]].concat());
+    }
+
+    #[test]
+    fn what_was_moved_is_read_source_first() {
+        // This face says what it hears.
+        let mut face = Face::start(&["cat".to_string()]).expect("started");
+        face.send(vec![19, 0, 0, 0, 1, 2, 3]);
+        let told = face.next_moved(&Moving { way: Way::Narrow, from: vec![0, 0], into: vec![0] });
+        assert_eq!(told, Ok(ToldMove { from: vec![1, 2], moved: Moved { reason: 19, into: vec![3] } }));
+        assert_eq!(face.finish(), Ok(()));
     }
 
     #[test]

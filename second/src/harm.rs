@@ -122,8 +122,8 @@ const INTEGERS: [&str; 14] = [
 const TEXTS: [&str; 12] = ["", "1.0", "1.00", "2.0", "+1.0", "A = B", "[KM]", "5 [KM]", "~", "COMMENT", "UTC", "TAI"];
 
 /// A value for a line with this code, or one for any other.
-fn any_value(dice: &mut Dice, code: u16) -> String {
-    let code = if dice.percent(80) { code } else { dice.between(1, 43) as u16 };
+fn any_value(dice: &mut Dice, code: u32) -> String {
+    let code = if dice.percent(80) { code } else { dice.between(1, 43) as u32 };
     let edges: &[&str] = match code {
         2 | 9 | 29 | 38..=41 => &EPOCHS,
         43 => &INTEGERS,
@@ -144,7 +144,7 @@ fn change_value(draft: &mut Draft, dice: &mut Dice) {
         Part::Assign { value, .. } => (value, line.code),
         Part::Data(fields) if !fields.is_empty() => {
             let at = dice.below(fields.len());
-            (&mut fields[at], 9 + at as u16)
+            (&mut fields[at], 9 + at as u32)
         }
         _ => return,
     };
@@ -236,7 +236,7 @@ fn under_utc(lines: &[Line]) -> Vec<bool> {
 }
 
 /// The place and time of a line that has one and passes the test.
-fn any_timed(lines: &[Line], dice: &mut Dice, test: impl Fn(usize, u16, Time) -> bool) -> Option<(usize, Time)> {
+fn any_timed(lines: &[Line], dice: &mut Dice, test: impl Fn(usize, u32, Time) -> bool) -> Option<(usize, Time)> {
     let timed = (0..lines.len()).filter_map(|at| lines[at].time.map(|time| (at, time)));
     let mut found: Vec<(usize, Time)> = timed.filter(|(at, time)| test(*at, lines[*at].code, *time)).collect();
     let last = lines[found.last()?.0].group;
@@ -245,7 +245,7 @@ fn any_timed(lines: &[Line], dice: &mut Dice, test: impl Fn(usize, u16, Time) ->
         found.retain(|(at, _)| lines[*at].group == last);
     }
     // Every code is as likely, though data lines are many.
-    let mut codes: Vec<u16> = found.iter().map(|(at, _)| lines[*at].code).collect();
+    let mut codes: Vec<u32> = found.iter().map(|(at, _)| lines[*at].code).collect();
     codes.sort_unstable();
     codes.dedup();
     let code = dice.pick(&codes);
@@ -266,7 +266,7 @@ fn stray_sixty(draft: &mut Draft, dice: &mut Dice) {
 fn leave_utc(draft: &mut Draft, dice: &mut Dice) {
     let lines = any_message(draft, dice);
     let utc = under_utc(lines);
-    let told = |at: usize, code: u16| code != 2 && utc[at];
+    let told = |at: usize, code: u32| code != 2 && utc[at];
     let found = any_timed(lines, dice, |at, code, time| told(at, code) && time.is_at_second_60());
     let Some((at, time)) = found.or_else(|| any_timed(lines, dice, |at, code, _| told(at, code))) else { return };
     if found.is_none() {

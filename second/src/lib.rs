@@ -1,6 +1,7 @@
-//! The second program: a judge, a desk, a writer and a sayer made from documents 01 and 02 alone, and what the comparer needs to run them beside
-//! the product.
+//! The second program: a judge, a desk, a writer, a sayer and a mover of tables made from documents 01 and 02 alone, and what the comparer needs
+//! to run them beside the product.
 
+pub mod bytes;
 pub mod cases;
 pub mod clock;
 pub mod desk;
@@ -9,10 +10,12 @@ pub mod face;
 pub mod harm;
 pub mod judge;
 pub mod make;
+pub mod movings;
 pub mod natural;
 pub mod say;
 pub mod sayings;
 pub mod send;
 pub mod session;
 pub mod weigh;
+pub mod widths;
 pub mod writings;

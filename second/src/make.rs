@@ -20,8 +20,8 @@ pub enum Part {
 #[derive(Clone, Debug)]
 pub struct Line {
     pub part: Part,
-    pub code: u16,
-    pub group: u16,
+    pub code: u32,
+    pub group: u32,
     /// The time that the line's epoch says, if it has one.
     pub time: Option<Time>,
     /// Blanks before the text, around `=`, between fields, before a unit, and after the text.
@@ -50,26 +50,26 @@ pub struct Draft {
 
 pub const ENDINGS: [&[u8]; 4] = [b"\n", b"\r", b"\r\n", b"\n\r"];
 
-const HEADER: [(u16, &str); 2] = [(2, "CREATION_DATE"), (3, "ORIGINATOR")];
-const OBJECT: [(u16, &str); 4] = [(4, "OBJECT_NAME"), (5, "OBJECT_ID"), (6, "CENTER_NAME"), (7, "REF_FRAME")];
-const STATE: [(u16, &str, &str); 6] =
+const HEADER: [(u32, &str); 2] = [(2, "CREATION_DATE"), (3, "ORIGINATOR")];
+const OBJECT: [(u32, &str); 4] = [(4, "OBJECT_NAME"), (5, "OBJECT_ID"), (6, "CENTER_NAME"), (7, "REF_FRAME")];
+const STATE: [(u32, &str, &str); 6] =
     [(10, "X", "[KM]"), (11, "Y", "[KM]"), (12, "Z", "[KM]"), (13, "X_DOT", "[KM/S]"), (14, "Y_DOT", "[KM/S]"), (15, "Z_DOT", "[KM/S]")];
-const KEPLER: [(u16, &str, &str); 5] = [
+const KEPLER: [(u32, &str, &str); 5] = [
     (16, "SEMI_MAJOR_AXIS", "[KM]"),
     (17, "ECCENTRICITY", ""),
     (18, "INCLINATION", "[DEG]"),
     (19, "RA_OF_ASC_NODE", "[DEG]"),
     (20, "ARG_OF_PERICENTER", "[DEG]"),
 ];
-const ANOMALIES: [(u16, &str, &str); 2] = [(21, "TRUE_ANOMALY", "[DEG]"), (22, "MEAN_ANOMALY", "[DEG]")];
-const CRAFT: [(u16, &str, &str); 5] = [
+const ANOMALIES: [(u32, &str, &str); 2] = [(21, "TRUE_ANOMALY", "[DEG]"), (22, "MEAN_ANOMALY", "[DEG]")];
+const CRAFT: [(u32, &str, &str); 5] = [
     (24, "MASS", "[KG]"),
     (25, "SOLAR_RAD_AREA", "[M**2]"),
     (26, "SOLAR_RAD_COEFF", ""),
     (27, "DRAG_AREA", "[M**2]"),
     (28, "DRAG_COEFF", ""),
 ];
-const THRUST: [(u16, &str, &str); 3] = [(33, "MAN_DV_1", "[KM/S]"), (34, "MAN_DV_2", "[KM/S]"), (35, "MAN_DV_3", "[KM/S]")];
+const THRUST: [(u32, &str, &str); 3] = [(33, "MAN_DV_1", "[KM/S]"), (34, "MAN_DV_2", "[KM/S]"), (35, "MAN_DV_3", "[KM/S]")];
 
 /// A sound feed of one message or more.
 pub fn draft(dice: &mut Dice) -> Draft {
@@ -84,7 +84,7 @@ pub fn draft(dice: &mut Dice) -> Draft {
 struct Maker<'d> {
     dice: &'d mut Dice,
     lines: Vec<Line>,
-    group: u16,
+    group: u32,
     /// How many in a hundred lines have a comment before them.
     comments: usize,
     /// How many in a hundred lines have a blank line before them.
@@ -103,7 +103,7 @@ impl<'d> Maker<'d> {
         Maker { dice, lines: Vec::new(), group: 0, comments, gaps, loose, days: Days::Long }
     }
 
-    fn add(&mut self, code: u16, part: Part, time: Option<Time>) {
+    fn add(&mut self, code: u32, part: Part, time: Option<Time>) {
         let blanks = if self.loose { any_blanks(self.dice) } else { [0, 1, 1, 1, 0] };
         let stretch = if self.dice.percent(1) { self.dice.between(250, 254) } else { 0 };
         self.lines.push(Line { part, code, group: self.group, time, blanks, stretch });
@@ -120,29 +120,29 @@ impl<'d> Maker<'d> {
         }
     }
 
-    fn assign(&mut self, code: u16, word: &str, value: String, unit: &str) {
+    fn assign(&mut self, code: u32, word: &str, value: String, unit: &str) {
         self.strew(true);
         self.add(code, assigned(word, value, unit), None);
     }
 
-    fn text(&mut self, code: u16, word: &str) {
+    fn text(&mut self, code: u32, word: &str) {
         let value = any_text(self.dice);
         self.assign(code, word, value, "");
     }
 
-    fn number(&mut self, (code, word, unit): (u16, &str, &str)) {
+    fn number(&mut self, (code, word, unit): (u32, &str, &str)) {
         let value = any_number(self.dice);
         let unit = if self.dice.percent(50) { unit } else { "" };
         self.assign(code, word, value, unit);
     }
 
-    fn epoch(&mut self, code: u16, word: &str, time: Time) {
+    fn epoch(&mut self, code: u32, word: &str, time: Time) {
         self.strew(true);
         let value = time.any_text(self.dice);
         self.add(code, assigned(word, value, ""), Some(time));
     }
 
-    fn mark(&mut self, code: u16, word: &str) {
+    fn mark(&mut self, code: u32, word: &str) {
         self.strew(true);
         self.add(code, Part::Mark(word.to_string()), None);
     }
@@ -154,7 +154,7 @@ impl<'d> Maker<'d> {
     }
 
     /// The heading and the two lines after it; no comment stands before a heading.
-    fn header(&mut self, code: u16, word: &str) {
+    fn header(&mut self, code: u32, word: &str) {
         self.add(code, assigned(word, "1.0".to_string(), ""), None);
         let time = any_time(self.dice, Days::Long);
         self.epoch(HEADER[0].0, HEADER[0].1, time);
@@ -187,12 +187,17 @@ impl<'d> Maker<'d> {
         THRUST.iter().for_each(|entry| self.number(*entry));
     }
 
-    fn segment(&mut self) {
+    /// A segment, with so many states if that is asked for.
+    fn segment(&mut self, states: Option<usize>) {
         self.strew(true);
         self.group += 1;
         self.add(37, Part::Mark("META_START".to_string()), None);
         self.object();
-        let span = if self.dice.percent(MIDNIGHTS) { midnight(self.dice, self.days) } else { span(self.dice, self.days) };
+        let span = match states {
+            Some(count) => long_span(self.dice, self.days, count),
+            None if self.dice.percent(MIDNIGHTS) => midnight(self.dice, self.days),
+            None => span(self.dice, self.days),
+        };
         self.epoch(38, "START_TIME", span.start);
         if let Some(time) = span.useable_start {
             self.epoch(39, "USEABLE_START_TIME", time);
@@ -247,10 +252,39 @@ pub fn oem(dice: &mut Dice) -> Vec<Line> {
     let mut maker = Maker::new(dice);
     maker.header(36, "CCSDS_OEM_VERS");
     for _ in 0..maker.dice.pick(&[1, 1, 2, 2, 3]) {
-        maker.segment();
+        maker.segment(None);
     }
     maker.strew(true);
     maker.lines
+}
+
+/// A sound OEM of one segment with so many states.
+fn long_oem(dice: &mut Dice, states: usize) -> Vec<Line> {
+    let mut maker = Maker::new(dice);
+    maker.header(36, "CCSDS_OEM_VERS");
+    maker.segment(Some(states));
+    maker.strew(true);
+    maker.lines
+}
+
+/// Gives a message of a sound draft more lines than 16 bits count, or more rows; it stays sound.
+pub fn lengthen(draft: &mut Draft, dice: &mut Dice) {
+    let at = dice.below(draft.messages.len());
+    let lines = &mut draft.messages[at];
+    let count = dice.between(65_300, 66_300);
+    let line = |part, code| Line { part, code, group: 0, time: None, blanks: [0, 1, 1, 1, 0], stretch: 0 };
+    match dice.below(3) {
+        // Blank lines may stand anywhere, and comments right after the heading.
+        0 => {
+            let place = dice.between(1, lines.len());
+            lines.splice(place..place, (0..count).map(|_| line(Part::Blank, 0)));
+        }
+        1 => {
+            let texts: Vec<String> = (0..count).map(|_| digits(dice, 3)).collect();
+            lines.splice(1..1, texts.into_iter().map(|text| line(Part::Comment(text), 45)));
+        }
+        _ => *lines = long_oem(dice, count / 7),
+    }
 }
 
 /// The times of a segment.
@@ -266,6 +300,17 @@ fn span(dice: &mut Dice, days: Days) -> Span {
     // Whole days keep the clock, so data that begins at second 60 may stay there day after day.
     let step = dice.pick(&[1, 1000, SECOND / 2, SECOND, 60 * SECOND, days.length(), 31 * days.length()]);
     let count = dice.pick(&[1, 1, 2, 3, 5, 8, 20]);
+    stepped(dice, days, step, count)
+}
+
+/// So many states that they last a month at most, since time ends with the year 9999.
+fn long_span(dice: &mut Dice, days: Days, count: usize) -> Span {
+    let step = dice.pick(&[1, 1000, SECOND / 2, SECOND, 60 * SECOND]);
+    stepped(dice, days, step, count)
+}
+
+/// Data at steps of a length, at times two or three of them.
+fn stepped(dice: &mut Dice, days: Days, step: u128, count: usize) -> Span {
     let mut data = vec![any_time(dice, days)];
     for at in 1..count {
         data.push(data[at - 1].plus(days, step * dice.between(1, 3) as u128));
@@ -396,7 +441,7 @@ fn garbage(dice: &mut Dice) -> Vec<u8> {
 }
 
 /// The bytes of a line without its ending, and where its values stand in it.
-pub fn line_text(line: &Line) -> (Vec<u8>, Vec<(u16, usize, usize)>) {
+pub fn line_text(line: &Line) -> (Vec<u8>, Vec<(u32, usize, usize)>) {
     let mut out = vec![b' '; line.blanks[0]];
     let mut values = Vec::new();
     match &line.part {
@@ -422,7 +467,7 @@ fn push_blanks(out: &mut Vec<u8>, count: usize) {
     out.resize(out.len() + count, b' ');
 }
 
-fn write_assignment(out: &mut Vec<u8>, values: &mut Vec<(u16, usize, usize)>, line: &Line, [word, value, unit]: [&str; 3]) {
+fn write_assignment(out: &mut Vec<u8>, values: &mut Vec<(u32, usize, usize)>, line: &Line, [word, value, unit]: [&str; 3]) {
     out.extend_from_slice(word.as_bytes());
     push_blanks(out, line.blanks[1]);
     out.push(b'=');
@@ -435,7 +480,7 @@ fn write_assignment(out: &mut Vec<u8>, values: &mut Vec<(u16, usize, usize)>, li
     }
 }
 
-fn write_comment(out: &mut Vec<u8>, values: &mut Vec<(u16, usize, usize)>, line: &Line, text: &str) {
+fn write_comment(out: &mut Vec<u8>, values: &mut Vec<(u32, usize, usize)>, line: &Line, text: &str) {
     out.extend_from_slice(b"COMMENT");
     if !text.is_empty() {
         push_blanks(out, line.blanks[1].max(1));
@@ -444,12 +489,12 @@ fn write_comment(out: &mut Vec<u8>, values: &mut Vec<(u16, usize, usize)>, line:
     out.extend_from_slice(text.as_bytes());
 }
 
-fn write_data(out: &mut Vec<u8>, values: &mut Vec<(u16, usize, usize)>, line: &Line, fields: &[String]) {
+fn write_data(out: &mut Vec<u8>, values: &mut Vec<(u32, usize, usize)>, line: &Line, fields: &[String]) {
     for (at, field) in fields.iter().enumerate() {
         if at > 0 {
             push_blanks(out, line.blanks[1 + at % 3].max(1));
         }
-        values.push((9 + at as u16, out.len(), field.len()));
+        values.push((9 + at as u32, out.len(), field.len()));
         out.extend_from_slice(field.as_bytes());
     }
 }
@@ -508,8 +553,7 @@ fn write_message(writer: &mut Writer, lines: &[Line], ending: Ending, open_end: 
             // A comment takes the group of the row before it.
             let group = if code == 45 { rows.last().map_or(0, |row| row.group) } else { line.group };
             let line = writer.ended - heading + 1;
-            // Feeds over the limit are written too, and have no rows to foretell.
-            rows.push(Row { code, group, line: line as u16, start: (from + start) as u16, length: length as u16 });
+            rows.push(Row { code, group, line: line as u32, start: (from + start) as u32, length: length as u32 });
         }
         writer.push_all(&text);
         if open_end && at + 1 == lines.len() {
@@ -559,6 +603,24 @@ mod tests {
                 assert_eq!(judge(&written.feed, at as u64 + 1), Answer::Accepted(rows.clone()), "turn {turn}");
             }
         }
+    }
+
+    #[test]
+    fn long_feeds_are_accepted_with_the_rows_foretold() {
+        let seed = 71;
+        let (mut lines, mut rows) = (0, 0);
+        for turn in 0..12 {
+            let mut dice = Dice::new(seed, turn);
+            let mut draft = draft(&mut dice);
+            lengthen(&mut draft, &mut dice);
+            let written = write(&draft, &mut dice);
+            for (message, foretold) in (1..).zip(&written.rows) {
+                assert!(judge(&written.feed, message) == Answer::Accepted(foretold.clone()), "seed {seed}, turn {turn}");
+                lines += usize::from(foretold.last().is_some_and(|row| row.line > 65_535));
+                rows += usize::from(foretold.len() > 65_535);
+            }
+        }
+        assert!(lines > 1 && rows > 1, "seed {seed}: {lines} with lines, {rows} with rows over 65,535");
     }
 
     #[test]

@@ -1,14 +1,14 @@
 //! Sends a message back out. It is written from its rows alone, since a row says what its line was and where its value stands: nothing else of
 //! the message's bytes is looked at, so nothing else can come along.
 
+use crate::bytes::Bytes;
 use crate::desk::{value, FINE, NO_ROOM};
 use crate::judge::{coded, judge, Answer, Reason, Row, Wanted};
-use std::rc::Rc;
 
 /// All that goes into a writing.
 #[derive(Clone, Debug)]
 pub struct Sending {
-    pub feed: Rc<[u8]>,
+    pub feed: Bytes,
     pub message: u64,
     pub buffer: Vec<u8>,
 }
@@ -75,7 +75,7 @@ fn line(feed: &[u8], rows: &[Row]) -> Vec<u8> {
 }
 
 /// A line with a keyword. Nothing is assigned to META lines and comments, and only comments have something to say then.
-fn worded(code: u16, value: &[u8]) -> Vec<u8> {
+fn worded(code: u32, value: &[u8]) -> Vec<u8> {
     let word = coded(code);
     let sign: &[u8] = match (word.wanted, value) {
         (Wanted::Nothing, []) => b"",
@@ -172,7 +172,8 @@ mod tests {
     #[test]
     fn a_refusal_is_the_judges() {
         assert_eq!(outgoing(b"", 1), Err((Reason::NoMessage, 0)));
-        assert_eq!(outgoing(&[b'\n'; 65_536], 1), Err((Reason::FeedLong, 0)));
+        assert_eq!(outgoing(&[b'\n'; 65_536], 1), Err((Reason::NoMessage, 0)));
+        assert_eq!(outgoing(&vec![b'\n'; 16_777_216], 1), Err((Reason::FeedLong, 0)));
         assert_eq!(outgoing(OPM.replace("X=1", "X=1 [km]").as_bytes(), 1), Err((Reason::Unit, 10)));
         assert_eq!(outgoing(&OEM.as_bytes()[..212], 1), Err((Reason::Short, 13)));
     }

@@ -2,10 +2,10 @@
 //! Every answer is foretold without the desk's own code: a load's table is written byte after byte, and what a ticket hears comes from
 //! the judge's rows and the lengths of feed and table alone.
 
+use crate::bytes::Bytes;
 use crate::desk::{Desk, Heard, Load, Placed, Reading, Ticket, ASTRAY, FINE, FRESH, GONE, NO_ROOM, NO_ROW, SPENT};
 use crate::dice::Dice;
 use crate::judge::{Answer, Feed, Row, FEED_LIMIT};
-use std::rc::Rc;
 
 /// A call on the desk, and what must be answered; of a ticket on bytes that no load has written nothing is foretold.
 pub enum Step {
@@ -15,10 +15,13 @@ pub enum Step {
 
 const TOP: u32 = u32::MAX;
 
+/// So many in a thousand feeds that are lengthened for a reading are then longer than a load would take.
+const OVER: usize = 30;
+
 /// A session with these feeds; most loads are of the first one.
-pub fn session(feeds: &[Rc<[u8]>], dice: &mut Dice) -> Vec<Step> {
+pub fn session(feeds: &[Bytes], dice: &mut Dice) -> Vec<Step> {
     let desk = any_desk(dice);
-    let size = dice.below(300);
+    let size = dice.below(600);
     let table = any_bytes(dice, size);
     // What a desk holds that comes from elsewhere is not known.
     let rows = (desk.count == 0).then(Vec::new);
@@ -51,10 +54,10 @@ fn any_bytes(dice: &mut Dice, size: usize) -> Vec<u8> {
 /// A session as it goes on.
 struct Session<'s> {
     dice: &'s mut Dice,
-    feeds: &'s [Rc<[u8]>],
+    feeds: &'s [Bytes],
     desk: Desk,
     /// The feed and the table of the last load that was not refused as spent.
-    feed: Rc<[u8]>,
+    feed: Bytes,
     table: Vec<u8>,
     /// The rows that the desk holds, if that is known.
     rows: Option<Vec<Row>>,
@@ -71,7 +74,7 @@ impl Session<'_> {
         let message = self.message(lines.headings().unwrap_or(0) as u64);
         let judged = lines.judge(message);
         let rows = if let Answer::Accepted(rows) = &judged { rows.len() } else { self.dice.below(40) };
-        let load = Load { desk: self.desk, feed: feed.clone(), message, table: self.table_for(10 * rows) };
+        let load = Load { desk: self.desk, feed: feed.clone(), message, table: self.table_for(20 * rows) };
         let placed = foretold_load(&load, &judged);
         if placed.reason != SPENT {
             self.go_on(feed, &placed, judged);
@@ -80,7 +83,7 @@ impl Session<'_> {
     }
 
     /// The desk and the table that came back are handed on, and some tickets are kept.
-    fn go_on(&mut self, feed: Rc<[u8]>, placed: &Placed, judged: Answer) {
+    fn go_on(&mut self, feed: Bytes, placed: &Placed, judged: Answer) {
         self.feed = feed;
         self.desk = placed.desk;
         self.table.clone_from(&placed.table);
@@ -105,10 +108,10 @@ impl Session<'_> {
     fn table_for(&mut self, needed: usize) -> Vec<u8> {
         let size = match self.dice.below(12) {
             0 => self.dice.below(needed + 1),
-            1 => self.dice.pick(&[0, 1, 9, needed / 5, needed / 2]),
-            2..=5 => (needed + self.dice.below(5)).saturating_sub(2),
-            6..=8 => needed + self.dice.below(30),
-            _ => needed + self.dice.below(400),
+            1 => self.dice.pick(&[0, 1, 19, needed / 5, needed / 2]),
+            2..=5 => (needed + self.dice.below(9)).saturating_sub(4),
+            6..=8 => needed + self.dice.below(60),
+            _ => needed + self.dice.below(800),
         };
         let mut table = if self.dice.percent(50) { self.table.clone() } else { Vec::new() };
         table.truncate(size);
@@ -143,10 +146,10 @@ impl Session<'_> {
         }
     }
 
-    /// A row far out; the places of some would come back to the front of the table in 16 or 32 bits.
+    /// A row far out; the places of some, in bytes or in entries, would come back to the front of the table in 16 or 32 bits.
     fn far_row(&mut self) -> u32 {
         let any = self.dice.roll() as u32;
-        self.dice.pick(&[65_536, 429_496_730, 858_993_460, 1_288_490_189, 0x8000_0000, any])
+        self.dice.pick(&[65_535, 65_536, 214_748_365, 429_496_730, 858_993_460, 1_288_490_189, 0x8000_0000, any])
     }
 
     /// Where the value of a row ends, if that is known.
@@ -155,16 +158,15 @@ impl Session<'_> {
     }
 
     /// The feed of the load, at times cut, lengthened or another; cuts aim at the end of a row's value.
-    fn lent_feed(&mut self, aim: usize) -> Rc<[u8]> {
+    fn lent_feed(&mut self, aim: usize) -> Bytes {
         let feed = self.feed.clone();
         match (self.dice.below(20), self.value_end(aim)) {
-            (0, _) => Rc::from(&b""[..]),
-            (1, _) => feed[..self.dice.between(0, feed.len())].into(),
-            (2..=5, Some(end)) => feed[..(end + self.dice.below(3)).saturating_sub(1).min(feed.len())].into(),
+            (0, _) => Vec::new().into(),
+            (1, _) => feed.cut(self.dice.between(0, feed.len())),
+            (2..=5, Some(end)) => feed.cut((end + self.dice.below(3)).saturating_sub(1).min(feed.len())),
             (6 | 7, _) => {
-                let over = if self.dice.percent(10) { FEED_LIMIT.saturating_sub(feed.len()) } else { 0 };
-                let more = over + self.dice.between(1, 200);
-                [&feed[..], &vec![b' '; more]].concat().into()
+                let size = if self.dice.below(1000) < OVER { feed.len().max(FEED_LIMIT) } else { feed.len() };
+                Bytes::padded(&feed[..], size + self.dice.between(1, 200), b' ')
             }
             (8, _) => self.feeds[self.dice.below(self.feeds.len())].clone(),
             _ => feed,
@@ -177,7 +179,7 @@ impl Session<'_> {
         match self.dice.below(20) {
             0 => table.clear(),
             1 => table.truncate(self.dice.between(0, self.table.len())),
-            2..=5 => table.truncate(10 * aim + self.dice.between(8, 11)),
+            2..=5 => table.truncate(20 * aim + self.dice.between(15, 24)),
             6 | 7 => {
                 let more = self.dice.between(1, 200);
                 table.extend(any_bytes(self.dice, more));
@@ -193,11 +195,12 @@ impl Session<'_> {
 
     /// Gives a row numbers that no load would have given it.
     fn change_numbers(&mut self, table: &mut [u8], aim: usize, feed: usize) {
-        for pair in table.chunks_exact_mut(2).skip(5 * aim).take(5) {
+        let feed = feed as u32;
+        for four in table.chunks_exact_mut(4).skip(5 * aim).take(5) {
             if self.dice.percent(50) {
-                let any = self.dice.roll() as u16;
-                let number = self.dice.pick(&[0, 1, 32_768, 65_535, feed as u16, (feed / 2) as u16, any]);
-                pair.copy_from_slice(&number.to_le_bytes());
+                let any = self.dice.roll() as u32;
+                let number = self.dice.pick(&[0, 1, 65_535, 65_536, 0x8000_0000, TOP, feed, feed / 2, any]);
+                four.copy_from_slice(&number.to_le_bytes());
             }
         }
     }
@@ -211,13 +214,13 @@ impl Session<'_> {
             return Some(Err(NO_ROW));
         }
         let row = self.rows.as_ref().filter(|_| !changed)?[ticket.row as usize];
-        let whole = table >= 10 * (ticket.row as usize + 1) && feed >= end(&row);
+        let whole = table >= 20 * (ticket.row as usize + 1) && feed >= end(&row);
         Some(if whole { Ok(row) } else { Err(ASTRAY) })
     }
 }
 
 fn end(row: &Row) -> usize {
-    usize::from(row.start) + usize::from(row.length)
+    row.start as usize + row.length as usize
 }
 
 /// What a load must come to, by what the judge says of its message.
@@ -229,7 +232,7 @@ fn foretold_load(load: &Load, judged: &Answer) -> Placed {
     placed.desk = Desk { load: load.desk.load + 1, count: 0 };
     match judged {
         Answer::Refused { reason, line } => (placed.reason, placed.line) = (reason.number(), *line as u32),
-        Answer::Accepted(rows) if load.table.len() < 10 * rows.len() => placed.reason = NO_ROOM,
+        Answer::Accepted(rows) if load.table.len() < 20 * rows.len() => placed.reason = NO_ROOM,
         Answer::Accepted(rows) => {
             placed.reason = FINE;
             placed.desk.count = rows.len() as u32;
@@ -242,8 +245,7 @@ fn foretold_load(load: &Load, judged: &Answer) -> Placed {
 fn write_rows(table: &mut [u8], rows: &[Row]) {
     for (at, row) in rows.iter().enumerate() {
         for (field, number) in [row.code, row.group, row.line, row.start, row.length].into_iter().enumerate() {
-            table[10 * at + 2 * field] = number as u8;
-            table[10 * at + 2 * field + 1] = (number >> 8) as u8;
+            (0..4).for_each(|byte| table[20 * at + 4 * field + byte] = (number >> (8 * byte)) as u8);
         }
     }
 }
@@ -256,7 +258,7 @@ mod tests {
 
     fn any_session(turn: u64) -> Vec<Step> {
         let mut dice = Dice::new(17, turn);
-        let feeds: Vec<Rc<[u8]>> = (0..2).map(|_| write(&draft(&mut dice), &mut dice).feed.into()).collect();
+        let feeds: Vec<Bytes> = (0..2).map(|_| write(&draft(&mut dice), &mut dice).feed.into()).collect();
         session(&feeds, &mut dice)
     }
 

@@ -1,6 +1,7 @@
 //! Makes writings of a feed's messages, on buffers of about the length needed, and has some of what goes out loaded and written again.
 //! A sound message is foretold by the maker's own text, put into the buffer byte after byte, without judge or writer.
 
+use crate::bytes::Bytes;
 use crate::desk::{Load, FINE, FRESH, NO_ROOM};
 use crate::dice::Dice;
 use crate::judge::{Answer, Feed, Reason};
@@ -10,7 +11,7 @@ use std::rc::Rc;
 
 /// A message and what goes out for it, worked out once for all buffers.
 pub struct Letter {
-    feed: Rc<[u8]>,
+    feed: Bytes,
     message: u64,
     rows: usize,
     /// Where the message stands in the feed; nowhere, if it has no such message.
@@ -33,7 +34,7 @@ pub struct Again {
 }
 
 impl Letter {
-    pub fn new(feed: &Rc<[u8]>, lines: &Feed, message: u64) -> Letter {
+    pub fn new(feed: &Bytes, lines: &Feed, message: u64) -> Letter {
         let answer = lines.judge(message);
         let rows = if let Answer::Accepted(rows) = &answer { rows.len() } else { 0 };
         let own = lines.place(message, 1).map_or(0..0, |place| {
@@ -61,8 +62,8 @@ impl Letter {
 
     /// Loads with just enough room for the message and for what goes out for it; nothing, if nothing goes out.
     pub fn again(&self, buffer: impl Fn(usize) -> Vec<u8>) -> Option<Again> {
-        let out: Rc<[u8]> = self.outgoing.as_ref().ok()?.as_slice().into();
-        let load = |feed: &Rc<[u8]>, message| Load { desk: FRESH, feed: feed.clone(), message, table: vec![0; 10 * self.rows] };
+        let out: Bytes = self.outgoing.as_ref().ok()?.as_slice().into();
+        let load = |feed: &Bytes, message| Load { desk: FRESH, feed: feed.clone(), message, table: vec![0; 20 * self.rows] };
         let sending = Sending { feed: out.clone(), message: 1, buffer: buffer(out.len()) };
         Some(Again { first: load(&self.feed, self.message), then: load(&out, 1), sending })
     }
@@ -76,7 +77,7 @@ const AGAIN: usize = 30;
 
 /// Writings of some of these messages of a feed, and what of them is loaded and written again.
 /// If the feed is sound, the texts are what its messages must go out as.
-pub fn writings(feed: &Rc<[u8]>, messages: &[u64], texts: Option<&[Vec<u8>]>, dice: &mut Dice) -> (Vec<Writing>, Vec<Again>) {
+pub fn writings(feed: &Bytes, messages: &[u64], texts: Option<&[Vec<u8>]>, dice: &mut Dice) -> (Vec<Writing>, Vec<Again>) {
     let lines = Feed::new(feed);
     let (mut writings, mut agains) = (Vec::new(), Vec::new());
     for (at, message) in messages.iter().enumerate() {
@@ -142,7 +143,7 @@ mod tests {
         for turn in 0..300 {
             let mut dice = Dice::new(seed, turn);
             let draft = draft(&mut dice);
-            let feed: Rc<[u8]> = write(&draft, &mut dice).feed.into();
+            let feed: Bytes = write(&draft, &mut dice).feed.into();
             let texts: Vec<Vec<u8>> = draft.messages.iter().map(|lines| sent(lines)).collect();
             let messages: Vec<u64> = (0..=texts.len() as u64 + 1).chain([u64::MAX]).collect();
             let (writings, agains) = writings(&feed, &messages, Some(&texts), &mut dice);
@@ -156,7 +157,7 @@ mod tests {
 
     #[test]
     fn a_message_ends_where_the_next_begins() {
-        let feed: Rc<[u8]> = b"junk\nCCSDS_OPM_VERS=1.0\n\n CCSDS_OEM_VERS =x\ny"[..].into();
+        let feed: Bytes = b"junk\nCCSDS_OPM_VERS=1.0\n\n CCSDS_OEM_VERS =x\ny"[..].into();
         let lines = Feed::new(&feed);
         let own = |message| Letter::new(&feed, &lines, message).own_bytes().to_vec();
         assert_eq!(own(1), b"CCSDS_OPM_VERS=1.0\n\n");

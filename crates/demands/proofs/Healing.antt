@@ -16,7 +16,7 @@ use Rattle.step.specs.declared.State.{State}
 use Rattle.judge.specs.Message.{isHeading, formOf, fromHeading, headings, upTo, messageOf, texts, judgeTexts, judgeLines, feedLimit, judgeOf, groupOf, rowsAt, rowsFrom, rowsLines, rowsOf}
 use Rattle.judge.specs.declared.Judged.{Judged}
 use Rattle.judge.specs.declared.Judged.the-variants.{Accepted, Refused}
-use Rattle.rows.specs.Table.{tableBytes}
+use Rattle.tables.specs.Table.{hostRow, tableBytes}
 use Rattle.desk.specs.Loads.{topLoad, deskAfter, loadOf, loadTable}
 use Rattle.rows.specs.Place.{roomFor}
 use Rattle.desk.specs.declared.Desk.{Desk}
@@ -137,8 +137,8 @@ same-count d₁ d₂ (Accepted n) = refl
 
 -- a table after an acceptance, by the rows that the message has
 table-by : (f : List ℕ) (k n : ℕ) (rs : List Row) → rowsOf f k ≡ rs → (d : Desk) (t : List ℕ) → (d .load .0 ≡ topLoad → ⊥)
-    → loadOf d f k (length t) .answer ≡ Accepted n → loadTable d f k t ≡ tableBytes rs ++ drop (10 * n) t
-table-by f k n rs r d t h e = load-judges d f k t h .1 n e .2 ∙ ap (λ (x : List Row). tableBytes x ++ drop (10 * n) t) r
+    → loadOf d f k (length t) .answer ≡ Accepted n → loadTable d f k t ≡ tableBytes rs ++ drop (hostRow * n) t
+table-by f k n rs r d t h e = load-judges d f k t h .1 n e .2 ∙ ap (λ (x : List Row). tableBytes x ++ drop (hostRow * n) t) r
 
 pub healing-loads : HealingLoads
 healing-loads f₁ f₂ q₁ q₂ l₁ l₂ s₁ s₂ e =

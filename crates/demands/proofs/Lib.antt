@@ -4,3 +4,4 @@ pub mod Healing
 pub mod Rows
 pub mod OwnRow
 pub mod OneAnswer
+pub mod Widths

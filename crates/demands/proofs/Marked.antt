@@ -23,6 +23,7 @@ use Rattle.grammar.proofs.Laws.{below, comesOnly, next-only}
 use Rattle.step.specs.Step.{sixtyStands, isTimely, areNumbers, dataAt, dataOf, fieldsOf, pastWhole, wholeOf, numberOf, pastTime, isEarly, timeOf, valueOf, assignOf, metaCode, metaOf, plainOf, pastComment, uncommentedOf, filledOf, stepOf}
 use Rattle.judge.specs.Message.{fromHeading, headings, upTo, messageOf, endOf, judgeTexts, judgeLines, judgeOf, groupOf, rowsAt, rowsFrom, rowsLines}
 use Rattle.desk.specs.Loads.{deskAfter, loadOf}
+use Rattle.tables.specs.Table.{entryBytes, tableBytes}
 use Rattle.rows.specs.Place.{roomFor}
 use Rattle.demands.specs.Sixty.{epochStands, sixty, InAnyState, Sixty}
 use Rattle.demands.specs.Degree.{Tied, Degree}
@@ -86,7 +87,7 @@ tied = (
 
 -- one declaration, so that the definitions are opened once
 both : Marked × Met
-unfolding has bytes agrees run isWord lastLine linesFrom linesBefore cutEnd trimOf heads headingOf wordEnds commentOf sidesOf assignmentOf fieldThen fieldsFrom fieldMore gathered signLen isExponent endsNumber afterWhole isNumber digitsFrom integerTop isInteger isLeap monthDays daysBefore monthDay yearDay lastSecond isClock isFraction timedOf epochOf isBefore pick keywords codeIn keywordOf isUnit nextOf allows isTimely areNumbers dataAt dataOf fieldsOf pastWhole wholeOf numberOf pastTime isEarly timeOf valueOf assignOf metaCode metaOf plainOf pastComment uncommentedOf filledOf stepOf fromHeading headings upTo messageOf endOf judgeTexts judgeLines judgeOf groupOf rowsAt rowsFrom rowsLines roomFor deskAfter loadOf
+unfolding has bytes agrees run isWord lastLine linesFrom linesBefore cutEnd trimOf heads headingOf wordEnds commentOf sidesOf assignmentOf fieldThen fieldsFrom fieldMore gathered signLen isExponent endsNumber afterWhole isNumber digitsFrom integerTop isInteger isLeap monthDays daysBefore monthDay yearDay lastSecond isClock isFraction timedOf epochOf isBefore pick keywords codeIn keywordOf isUnit nextOf allows isTimely areNumbers dataAt dataOf fieldsOf pastWhole wholeOf numberOf pastTime isEarly timeOf valueOf assignOf metaCode metaOf plainOf pastComment uncommentedOf filledOf stepOf fromHeading headings upTo messageOf endOf judgeTexts judgeLines judgeOf groupOf rowsAt rowsFrom rowsLines roomFor deskAfter loadOf entryBytes tableBytes
 both =
     let sixties : Sixty = (
       (refl, refl, refl, refl, refl, (λ b. refl), (λ b. refl), sixty-one),
@@ -98,7 +99,7 @@ both =
       (refl, refl, refl),
     ) in
     let degrees : Degree = (tied, (refl, refl, refl), (refl, refl, refl, refl), (refl, refl, refl), (refl, refl, refl)) in (
-      ((λ b. refl), (λ b. refl), (λ b. refl), (λ b. refl), (λ b. refl), sixties, refl, refl, refl, refl, refl, degrees, refl, refl, refl, refl, refl, refl, refl, refl, refl),
+      ((λ b. refl), (λ b. refl), (λ b. refl), (λ b. refl), (λ b. refl), sixties, refl, refl, refl, refl, refl, degrees, refl, refl, refl, refl, refl, refl, refl, refl, refl, refl, refl, refl, refl),
       (mem-of 2 _ refl, mem-of 22 _ refl, refl, refl, refl, refl, refl, refl),
     )
 

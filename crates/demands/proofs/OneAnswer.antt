@@ -17,4 +17,8 @@ one-answer = (
   (λ f k b. of-equation _),
   (λ f k b. of-equation _),
   (λ s decimals. of-equation _),
+  (λ t u. of-equation _),
+  (λ t u. of-equation _),
+  (λ u t. of-equation _),
+  (λ u t. of-equation _),
 )

@@ -12,15 +12,15 @@ use Rattle.reasons.specs.declared.Reason.the-variants as Reasons
 use Rattle.judge.specs.Message.{feedLimit, judgeOf, judgeLines, messageOf, rowsOf}
 use Rattle.judge.specs.declared.Judged.{Judged}
 use Rattle.judge.specs.declared.Judged.the-variants.{Accepted, Refused}
-use Rattle.rows.specs.Table.{tableBytes, rowAt}
+use Rattle.tables.specs.Table.{hostWidth, hostRow, tableBytes, rowAt}
 use Rattle.desk.specs.Loads.{topLoad, nextDesk, loadOf, readOf, partHeard}
 use Rattle.rows.specs.Place.{roomFor}
 use Rattle.desk.specs.declared.Desk.{Desk}
-use Rattle.rows.specs.declared.Heard.the-variants.{Spoken}
+use Rattle.tables.specs.declared.Heard.the-variants.{Spoken}
 use Rattle.desk.proofs.Reading.{read-row}
-use Rattle.rows.proofs.Hearing.{span-in}
+use Rattle.tables.proofs.Hearing.{span-in}
 use Rattle.rows.proofs.Fills.{rows-count}
-use Rattle.rows.proofs.Tables.{table-length, row-back}
+use Rattle.tables.proofs.Tables.{table-length, row-back}
 use Rattle.demands.specs.Loads.{ticket, noRow, OwnRow}
 use Rattle.demands.proofs.Loads.{answer-free, load-judges}
 use Rattle.demands.proofs.Rows.{Held, at-every, all-held, all-small}
@@ -35,14 +35,14 @@ within-limit f k n = go (ltb feedLimit (length f)) refl
     go false q e = ltb-false _ _ q
 
 -- an acceptance found room
-room-is : (bytes : ℕ) (j : Judged) (n : ℕ) → roomFor bytes j ≡ Accepted n → 10 * n ≤ bytes
+room-is : (bytes : ℕ) (j : Judged) (n : ℕ) → roomFor bytes j ≡ Accepted n → hostRow * n ≤ bytes
 unfolding roomFor
 room-is bytes (Refused r l) n e = let z : _≡_ {A = ℕ} 0 1 = cc in absurd (omega arith)
-room-is bytes (Accepted m) n e = go (ltb bytes (10 * m)) refl e
+room-is bytes (Accepted m) n e = go (ltb bytes (hostRow * m)) refl e
   where
-    go : (t : Bool) → ltb bytes (10 * m) ≡ t → elim t [ true ↦ Refused Reasons.NoRoom 0 | false ↦ Accepted m ] ≡ Accepted n → 10 * n ≤ bytes
+    go : (t : Bool) → ltb bytes (hostRow * m) ≡ t → elim t [ true ↦ Refused Reasons.NoRoom 0 | false ↦ Accepted m ] ≡ Accepted n → hostRow * n ≤ bytes
     go true q x = let z : _≡_ {A = ℕ} 0 1 = cc in absurd (omega arith)
-    go false q x = let w : m ≡ n = cc in omega (arith, ltb-false bytes (10 * m) q)
+    go false q x = let w : m ≡ n = cc in omega (arith, ltb-false bytes (hostRow * m) q)
 
 module _ (d : Desk) (f : List ℕ) (k : ℕ) (t : List ℕ) (n i : ℕ) (h : d .load .0 ≡ topLoad → ⊥) (e : loadOf d f k (length t) .answer ≡ Accepted n) (lt : i < n) where
   right : judgeOf f k ≡ Accepted n
@@ -54,19 +54,19 @@ module _ (d : Desk) (f : List ℕ) (k : ℕ) (t : List ℕ) (n i : ℕ) (h : d .
   own : Held (length f) (getD (rowsOf f k) i noRow)
   own = at-every (Held (length f)) noRow (rowsOf f k) (all-held f k (within-limit f k n right)) i (omega (arith, counted))
 
-  back : rowAt (tableBytes (rowsOf f k) ++ drop (10 * n) t) i ≡ getD (rowsOf f k) i noRow
+  back : rowAt hostWidth (tableBytes (rowsOf f k) ++ drop (hostRow * n) t) i ≡ getD (rowsOf f k) i noRow
   back =
-      row-back (rowsOf f k) (drop (10 * n) t) noRow (all-small (length f) (rowsOf f k) (all-held f k (within-limit f k n right))) i (omega (arith, counted))
+      row-back (rowsOf f k) (drop (hostRow * n) t) noRow (all-small (length f) (rowsOf f k) (all-held f k (within-limit f k n right))) i (omega (arith, counted))
 
-  heard : readOf (nextDesk d n) (ticket (d .load .0 + 1) i) f (tableBytes (rowsOf f k) ++ drop (10 * n) t) ≡ Spoken (getD (rowsOf f k) i noRow)
+  heard : readOf (nextDesk d n) (ticket (d .load .0 + 1) i) f (tableBytes (rowsOf f k) ++ drop (hostRow * n) t) ≡ Spoken (getD (rowsOf f k) i noRow)
   heard =
       let room = room-is (length t) (judgeOf f k) n (sym (answer-free d f k (length t) h) ∙ e) in
       read-row (nextDesk d n) (ticket (d .load .0 + 1) i) f _ refl lt
-      ∙ span-in i f _ (getD (rowsOf f k) i noRow) (sym back)
+      ∙ span-in hostWidth i f _ (getD (rowsOf f k) i noRow) (sym back)
       (simp (length-append, length-drop, table-length) (omega (arith, counted)))
       (own .within)
 
-  heard-on : (b : Desk) (u : List ℕ) → b ≡ nextDesk d n → u ≡ tableBytes (rowsOf f k) ++ drop (10 * n) t
+  heard-on : (b : Desk) (u : List ℕ) → b ≡ nextDesk d n → u ≡ tableBytes (rowsOf f k) ++ drop (hostRow * n) t
       → readOf b (ticket (b .load .0) i) f u ≡ Spoken (getD (rowsOf f k) i noRow)
   heard-on b u p q = rw (p, q) heard
 

@@ -19,10 +19,10 @@ use Rattle.step.specs.Step.{Inside, freshState, stepOf}
 use Rattle.step.specs.declared.State.{State}
 use Rattle.step.specs.declared.Step.{Step}
 use Rattle.step.proofs.Sound.{Good, offence, none, one, seven, step-good}
-use Rattle.judge.specs.Message.{isHeading, formOf, fromHeading, upTo, messageOf, groupOf, rowsAt, rowsFrom, rowsLines, rowsOf}
+use Rattle.judge.specs.Message.{feedLimit, isHeading, formOf, fromHeading, upTo, messageOf, groupOf, rowsAt, rowsFrom, rowsLines, rowsOf}
 use Rattle.judge.specs.declared.Row.{Row}
 use Rattle.rows.proofs.Fills.{group-le}
-use Rattle.rows.proofs.Tables.{Fit, Small}
+use Rattle.tables.proofs.Tables.{Fit, Small}
 
 -- a row whose numbers are small and whose span lies in a feed of n bytes
 pub record Held (n : ℕ) (r : Row) : Type 0 where
@@ -124,8 +124,8 @@ message-in f k =
 
 -- ---- rows
 
-module _ (n : ℕ) (limit : n ≤ 65535) where
-  at-held : (s : List ℕ) (at : ℕ) → at + length s ≤ n → (g line : ℕ) → g ≤ 65535 → line ≤ 65535 → (ps : List Span) (c : ℕ) → c + length ps ≤ 60000
+module _ (n : ℕ) (limit : n ≤ feedLimit) where
+  at-held : (s : List ℕ) (at : ℕ) → at + length s ≤ n → (g line : ℕ) → g ≤ feedLimit → line ≤ feedLimit → (ps : List Span) (c : ℕ) → c + length ps ≤ 60000
       → Every (λ p. Inside p s) ps → Every (Held n) (rowsAt c g line at ps)
   unfolding rowsAt
   at-held s at h g line hg hl [] c hc i = tt
@@ -137,7 +137,7 @@ module _ (n : ℕ) (limit : n ≤ 65535) where
     at-held s at h g line hg hl ps (c + 1) (omega arith) (i .1),
   )
 
-  step-held : (s : List ℕ) (x : Step) → Good s x → (at : ℕ) → at + length s ≤ n → (g line : ℕ) → g ≤ 65535 → line ≤ 65535
+  step-held : (s : List ℕ) (x : Step) → Good s x → (at : ℕ) → at + length s ≤ n → (g line : ℕ) → g ≤ feedLimit → line ≤ feedLimit
       → Every (Held n) (rowsAt (x .code) g line at (take (x .count) (x .spans)))
   unfolding rowsAt
   step-held s _ (offence st r) at h g line hg hl = tt
@@ -147,7 +147,7 @@ module _ (n : ℕ) (limit : n ≤ 65535) where
       let e : take 7 ps ≡ ps = take-all 7 ps (omega (arith, i .size)) in
       rw e (at-held s at h g line hg hl ps 9 (omega (arith, i .size)) (every-at (λ p. Inside p s) noSpan ps (i .inside)))
 
-  rows-held : (ls : List Line) (st : State) (g line : ℕ) → g < line → line + length ls ≤ 65536 → Every (LineIn n) ls → Every (Held n) (rowsFrom st g line ls)
+  rows-held : (ls : List Line) (st : State) (g line : ℕ) → g < line → line + length ls ≤ feedLimit + 1 → Every (LineIn n) ls → Every (Held n) (rowsFrom st g line ls)
   unfolding rowsFrom
   rows-held [] st g line hg hl h = tt
   rows-held (l ∷ ls) st g line hg hl h =
@@ -162,7 +162,7 @@ module _ (n : ℕ) (limit : n ≤ 65535) where
   lines-held [] h = tt
   lines-held (l ∷ ls) h = rows-held (l ∷ ls) (freshState (formOf (l .text))) 0 1 (omega arith) (omega (arith, h .few)) (h .inside)
 
-pub all-held : (f : List ℕ) (k : ℕ) → length f ≤ 65535 → Every (Held (length f)) (rowsOf f k)
+pub all-held : (f : List ℕ) (k : ℕ) → length f ≤ feedLimit → Every (Held (length f)) (rowsOf f k)
 all-held f k h = lines-held (length f) h (messageOf k f) (message-in f k)
 
 pub all-small : (n : ℕ) (rs : List Row) → Every (Held n) rs → Small rs

@@ -10,7 +10,7 @@ use Rattle.words.specs.Words.{bytes}
 use Rattle.reasons.specs.declared.Reason.the-variants as Reasons
 use Rattle.judge.specs.declared.Judged.the-variants.{Accepted, Refused}
 use Rattle.judge.specs.declared.Row.{Row}
-use Rattle.rows.specs.Table.{tableBytes}
+use Rattle.tables.specs.Table.{hostRow, tableBytes}
 use Rattle.desk.specs.Loads.{topLoad, loadOf, loadTable}
 use Rattle.desk.specs.declared.Desk.{Desk}
 use Rattle.demands.specs.Marked.{feedInFull}
@@ -49,9 +49,9 @@ pub record Alike (f₁ f₂ : List ℕ) (q₁ q₂ : ℕ) : Type 0 where
   pub rows₁ : (j : ℕ) → 1 ≤ j → rowsOf f₁ (fromThere f₁ q₁ j) ≡ map (movedRow q₁) (base j)
   pub rows₂ : (j : ℕ) → 1 ≤ j → rowsOf f₂ (fromThere f₂ q₂ j) ≡ map (movedRow q₂) (base j)
   pub tables₁ : (j n : ℕ) → 1 ≤ j → (d : Desk) (t : List ℕ) → (d .load .0 ≡ topLoad → ⊥) → loadOf d f₁ (fromThere f₁ q₁ j) (length t) .answer ≡ Accepted n
-      → loadTable d f₁ (fromThere f₁ q₁ j) t ≡ tableBytes (map (movedRow q₁) (base j)) ++ drop (10 * n) t
+      → loadTable d f₁ (fromThere f₁ q₁ j) t ≡ tableBytes (map (movedRow q₁) (base j)) ++ drop (hostRow * n) t
   pub tables₂ : (j n : ℕ) → 1 ≤ j → (d : Desk) (t : List ℕ) → (d .load .0 ≡ topLoad → ⊥) → loadOf d f₂ (fromThere f₂ q₂ j) (length t) .answer ≡ Accepted n
-      → loadTable d f₂ (fromThere f₂ q₂ j) t ≡ tableBytes (map (movedRow q₂) (base j)) ++ drop (10 * n) t
+      → loadTable d f₂ (fromThere f₂ q₂ j) t ≡ tableBytes (map (movedRow q₂) (base j)) ++ drop (hostRow * n) t
 
 -- "Take two feeds within the size limit, and a place in each that starts a line, from which both run on with the same bytes, beginning with a heading
 -- line." The heading is not asked for: what follows holds without it.

@@ -4,3 +4,4 @@ pub mod Marked
 pub mod Loads
 pub mod Healing
 pub mod OneAnswer
+pub mod Widths

@@ -9,12 +9,12 @@ use Rattle.reasons.specs.declared.Reason.the-variants as Reasons
 use Rattle.judge.specs.Message.{judgeOf, rowsOf}
 use Rattle.judge.specs.declared.Judged.the-variants.{Accepted, Refused}
 use Rattle.judge.specs.declared.Row.{Row}
-use Rattle.rows.specs.Table.{tableBytes}
+use Rattle.tables.specs.Table.{hostRow, tableBytes}
 use Rattle.desk.specs.Loads.{topLoad, nextDesk, loadOf, loadTable, readOf, partHeard}
 use Rattle.rows.specs.Place.{roomFor}
 use Rattle.desk.specs.declared.Desk.{Desk}
 use Rattle.desk.specs.declared.Ticket.{Ticket}
-use Rattle.rows.specs.declared.Heard.the-variants.{Spoken, Silent}
+use Rattle.tables.specs.declared.Heard.the-variants.{Spoken, Silent}
 
 abbrev pub ticket : ℕ → ℕ → Ticket
 ticket l n = record { load = record { 0 = l }; row = record { 0 = n } }
@@ -52,7 +52,7 @@ abbrev pub LoadJudges : Type 0
 LoadJudges = (d : Desk) (f : List ℕ) (k : ℕ) (t : List ℕ) → (d .load .0 ≡ topLoad → ⊥)
     → (loadOf d f k (length t) .answer ≡ roomFor (length t) (judgeOf f k))
     × ((n : ℕ) → loadOf d f k (length t) .answer ≡ Accepted n
-    → (judgeOf f k ≡ Accepted n) × (loadOf d f k (length t) .desk ≡ nextDesk d n) × (loadTable d f k t ≡ tableBytes (rowsOf f k) ++ drop (10 * n) t))
+    → (judgeOf f k ≡ Accepted n) × (loadOf d f k (length t) .desk ≡ nextDesk d n) × (loadTable d f k t ≡ tableBytes (rowsOf f k) ++ drop (hostRow * n) t))
 
 -- where there is no row
 abbrev pub noRow : Row

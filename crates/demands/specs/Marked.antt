@@ -13,6 +13,7 @@ use Rattle.values.specs.Number.{isNumber, isInteger}
 use Rattle.judge.specs.Message.{judgeOf, rowsOf}
 use Rattle.judge.specs.declared.Judged.the-variants.{Accepted, Refused}
 use Rattle.judge.specs.declared.Row.{Row}
+use Rattle.tables.specs.Table.{tableBytes}
 use Rattle.desk.specs.Loads.{loadOf}
 use Rattle.desk.specs.declared.Desk.{Desk}
 use Rattle.reasons.specs.declared.Reason.the-variants as Reasons
@@ -72,7 +73,8 @@ nineteenRows =
     ∷ []
 
 -- "days 2000-02-29 and 2000-366 stand; 1900-02-29, 2001-366, hour 24 [..] are VALUE. `0.5` stands; `.5` and `5.` don't. 2147483647
--- stands as a degree, 2147483648 doesn't. 254 bytes stand, 255 are LONG." "Without line 13: SHORT at 13. Line 12 given twice: ORDER at 13." "Table of 94 entries: NO_ROOM."
+-- stands as a degree, 2147483648 doesn't. 254 bytes stand, 255 are LONG." "Without line 13: SHORT at 13. Line 12 given twice: ORDER at 13." "Table of 94 entries: NO_ROOM.", which is
+-- 376 to 379 bytes by document 02, (vi)
 abbrev pub Marked : Type 0
 Marked =
     ((may : Bool) → epochStands may "2000-02-29T00:00:00" ≡ true)
@@ -94,5 +96,9 @@ Marked =
     × (rowsOf feedInFull 1 ≡ nineteenRows)
     × (judgeOf (bytes twelveLines) 1 ≡ Refused Reasons.Short 13)
     × (judgeOf (bytes twelveLines ++ (bytes "META_STOP\n" ++ bytes dataLine)) 1 ≡ Refused Reasons.Order 13)
-    × (loadOf freshDesk feedInFull 1 188 .answer ≡ Refused Reasons.NoRoom 0)
-    × (loadOf freshDesk feedInFull 1 190 .answer ≡ Accepted 19)
+    × (loadOf freshDesk feedInFull 1 376 .answer ≡ Refused Reasons.NoRoom 0)
+    × (loadOf freshDesk feedInFull 1 377 .answer ≡ Refused Reasons.NoRoom 0)
+    × (loadOf freshDesk feedInFull 1 378 .answer ≡ Refused Reasons.NoRoom 0)
+    × (loadOf freshDesk feedInFull 1 379 .answer ≡ Refused Reasons.NoRoom 0)
+    × (loadOf freshDesk feedInFull 1 380 .answer ≡ Accepted 19)
+    × (length (tableBytes nineteenRows) ≡ 380)

@@ -13,7 +13,9 @@ use Rattle.desk.specs.Loads.{loadOf, loadTable, readOf, partHeard}
 use Rattle.desk.specs.declared.Desk.{Desk}
 use Rattle.desk.specs.declared.Ticket.{Ticket}
 use Rattle.desk.specs.declared.Loaded.{Loaded}
-use Rattle.rows.specs.declared.Heard.{Heard}
+use Rattle.tables.specs.declared.Heard.{Heard}
+use Rattle.tables.specs.declared.Resized.{Resized}
+use Rattle.tables.specs.Widths.{widenOf, widened, narrowOf, narrowed}
 use Rattle.write.specs.Plain.{plainOf}
 use Rattle.write.specs.Written.{writtenOf, bufferAfter}
 use Rattle.write.specs.declared.Written.{Written}
@@ -35,3 +37,7 @@ OneAnswer =
     × ((f : List ℕ) (k : ℕ) (b : List ℕ) → One {A = Written} (λ r. r ≡ writtenOf f k (length b)))
     × ((f : List ℕ) (k : ℕ) (b : List ℕ) → One {A = List ℕ} (λ c. c ≡ bufferAfter (writtenOf f k (length b)) (plainOf f k) b))
     × ((s : List ℕ) (decimals : ℕ) → One {A = Said} (λ r. r ≡ sayOf s decimals))
+    × ((t u : List ℕ) → One {A = Resized} (λ r. r ≡ widenOf t u))
+    × ((t u : List ℕ) → One {A = List ℕ} (λ x. x ≡ widened t u))
+    × ((u t : List ℕ) → One {A = Resized} (λ r. r ≡ narrowOf u t))
+    × ((u t : List ℕ) → One {A = List ℕ} (λ x. x ≡ narrowed u t))

@@ -10,14 +10,16 @@ use borrow.Author.Tests.{eq-eqb, ne-eqb, lt-ltb, le-ltb}
 use Rattle.reasons.specs.declared.Reason.the-variants as Reasons
 use Rattle.judge.specs.declared.Row.{Row}
 use Rattle.desk.specs.Loads.{topLoad, deskAfter, loadOf, readOf}
-use Rattle.rows.specs.Place.{roomFor, rowHeard}
-use Rattle.rows.proofs.Hearing.{Within, row-within}
+use Rattle.tables.specs.Table.{hostWidth}
+use Rattle.tables.specs.Hearing.{rowHeard}
+use Rattle.rows.specs.Place.{roomFor}
+use Rattle.tables.proofs.Hearing.{Within, row-within}
 use Rattle.judge.specs.Message.{judgeOf}
 use Rattle.judge.specs.declared.Judged.{Judged}
 use Rattle.judge.specs.declared.Judged.the-variants.{Refused}
 use Rattle.desk.specs.declared.Desk.{Desk}
 use Rattle.desk.specs.declared.Ticket.{Ticket}
-use Rattle.rows.specs.declared.Heard.the-variants.{Spoken, Silent}
+use Rattle.tables.specs.declared.Heard.the-variants.{Spoken, Silent}
 
 -- ---- a load
 
@@ -41,7 +43,7 @@ module _ (d : Desk) (k : Ticket) (f t : List ℕ) where
   unfolding readOf
   read-none h l = rw (eq-eqb _ _ h, readOf) (rw (le-ltb _ _ l))
 
-  pub read-row : k .load .0 ≡ d .load .0 → k .row .0 < d .count → readOf d k f t ≡ rowHeard (k .row .0) f t
+  pub read-row : k .load .0 ≡ d .load .0 → k .row .0 < d .count → readOf d k f t ≡ rowHeard hostWidth (k .row .0) f t
   unfolding readOf
   read-row h l = rw (eq-eqb _ _ h, readOf) (rw (lt-ltb _ _ l))
 
@@ -51,10 +53,10 @@ read-within : (d : Desk) (k : Ticket) (f t : List ℕ) → Within (readOf d k f 
 unfolding readOf Within
 read-within d k f t = go (eqb (k .load .0) (d .load .0)) (ltb (k .row .0) (d .count))
   where
-    go : (a b : Bool) → Within (elim a [ false ↦ Silent Reasons.Gone | true ↦ elim b [ false ↦ Silent Reasons.NoRow | true ↦ rowHeard (k .row .0) f t ] ]) f
+    go : (a b : Bool) → Within (elim a [ false ↦ Silent Reasons.Gone | true ↦ elim b [ false ↦ Silent Reasons.NoRow | true ↦ rowHeard hostWidth (k .row .0) f t ] ]) f
     go false b = tt
     go true false = tt
-    go true true = row-within _ f t
+    go true true = row-within _ _ f t
 
 pub spoken-within : (d : Desk) (k : Ticket) (f t : List ℕ) (r : Row) → readOf d k f t ≡ Spoken r → r .start + r .length ≤ length f
 unfolding Within

@@ -9,12 +9,14 @@ use Rattle.reasons.specs.declared.Reason.the-variants as Reasons
 use Rattle.judge.specs.Message.{judgeOf, rowsOf}
 use Rattle.judge.specs.declared.Judged.{Judged}
 use Rattle.judge.specs.declared.Judged.the-variants.{Accepted, Refused}
-use Rattle.rows.specs.Place.{roomFor, tableAfter, rowHeard}
+use Rattle.tables.specs.Table.{hostWidth}
+use Rattle.tables.specs.Hearing.{rowHeard}
+use Rattle.rows.specs.Place.{roomFor, tableAfter}
 use Rattle.desk.specs.declared.Desk.{Desk}
 use Rattle.desk.specs.declared.Ticket.{Ticket}
 use Rattle.desk.specs.declared.Loaded.{Loaded}
-use Rattle.rows.specs.declared.Heard.{Heard}
-use Rattle.rows.specs.declared.Heard.the-variants.{Spoken, Silent}
+use Rattle.tables.specs.declared.Heard.{Heard}
+use Rattle.tables.specs.declared.Heard.the-variants.{Spoken, Silent}
 
 -- "Load numbers go up to 4,294,967,295."
 abbrev pub topLoad : ℕ
@@ -47,7 +49,7 @@ unfoldable pub readOf : Desk → Ticket → List ℕ → List ℕ → Heard
 readOf d k f t =
     elim (eqb (k .load .0) (d .load .0)) [
       | false ↦ Silent Reasons.Gone
-      | true ↦ elim (ltb (k .row .0) (d .count)) [ false ↦ Silent Reasons.NoRow | true ↦ rowHeard (k .row .0) f t ]
+      | true ↦ elim (ltb (k .row .0) (d .count)) [ false ↦ Silent Reasons.NoRow | true ↦ rowHeard hostWidth (k .row .0) f t ]
     ]
 
 -- the row's part of the feed, "empty on a refusal"

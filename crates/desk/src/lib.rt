@@ -1,7 +1,7 @@
 // The desk: loads a message into a lent table of bytes, and speaks a row only to a ticket of the present load.
 use judge::Judged;
 use reasons::Reason;
-use rows::Heard;
+use tables::Heard;
 ghost use mathlib.Core.Path.{_≡_};
 ghost use Prim.Native.Nat.{_<_};
 ghost use lib.ListN.{length};
@@ -34,7 +34,7 @@ impl Desk {
     // Load numbers go up to this one.
     pub const TOP_LOAD: u32 = 4294967295;
     // A feed has at most so many bytes.
-    pub const FEED_LIMIT: usize = 65535;
+    pub const FEED_LIMIT: usize = judge::FEED_LIMIT;
 
     // Load number 0, no rows.
     pub fn fresh() -> Self
@@ -97,7 +97,7 @@ impl Desk {
         if self.count <= n {
             return Heard::Silent(Reason::NoRow);
         }
-        rows::row_heard(n, feed, table)
+        tables::row_heard(n, feed, table)
     }
 
     // The ticket's part of the feed, empty on a refusal.

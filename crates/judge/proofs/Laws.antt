@@ -27,7 +27,7 @@ use Rattle.judge.specs.declared.Judged.the-variants.{Accepted, Refused}
 use Rattle.judge.specs.declared.Met.{Met}
 use Rattle.judge.specs.declared.Met.the-variants.{End, Offence, Within}
 use Rattle.judge.specs.declared.Moved.{Moved}
-use Rattle.judge.specs.Message.{isHeading, formOf, fromHeading, headings, upTo, texts, endOf, judgeTexts, judgeLines, messageOf, judgeOf, metOf, movedOf, foundOf, FoundIs, rowsFrom, rowsLines, rowsOf}
+use Rattle.judge.specs.Message.{isHeading, formOf, fromHeading, headings, upTo, texts, endOf, judgeTexts, judgeLines, messageOf, judgeOf, feedLimit, metOf, movedOf, foundOf, FoundIs, rowsFrom, rowsLines, rowsOf}
 
 -- ---- past the feed's end
 
@@ -241,11 +241,11 @@ module _ (f : List ℕ) (at : ℕ) (first : Bool) (st : State) (m : Moved) (q : 
 -- ---- a message by its number
 
 module _ (f : List ℕ) (k : ℕ) where
-  pub judge-long : 65535 < length f → judgeOf f k ≡ Refused Reasons.FeedLong 0
+  pub judge-long : feedLimit < length f → judgeOf f k ≡ Refused Reasons.FeedLong 0
   unfolding judgeOf
   judge-long h = rw (lt-ltb _ _ h, judgeOf)
 
-  module _ (h : length f ≤ 65535) where
+  module _ (h : length f ≤ feedLimit) where
     pub judge-missing : FoundIs Missing k f → judgeOf f k ≡ Refused Reasons.NoMessage 0
     unfolding judgeOf FoundIs messageOf upTo judgeLines
     judge-missing q = rw (le-ltb _ _ h, judgeOf) (rw q)
@@ -263,10 +263,10 @@ not-both p q = let z : _≡_ {A = ℕ} 0 1 = cc in omega arith
 
 -- a message that is accepted
 module _ (f : List ℕ) (k n : ℕ) (e : judgeOf f k ≡ Accepted n) where
-  pub accepted-short : length f ≤ 65535
-  accepted-short = go (ltb 65535 (length f)) refl
+  pub accepted-short : length f ≤ feedLimit
+  accepted-short = go (ltb feedLimit (length f)) refl
     where
-      go : (t : Bool) → ltb 65535 (length f) ≡ t → length f ≤ 65535
+      go : (t : Bool) → ltb feedLimit (length f) ≡ t → length f ≤ feedLimit
       go true q = absurd (not-both e (judge-long f k (ltb-true _ _ q)))
       go false q = ltb-false _ _ q
 

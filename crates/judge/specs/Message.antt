@@ -88,9 +88,9 @@ unfoldable pub judgeLines : List Line → Judged
 judgeLines [] = Refused Reasons.NoMessage 0
 judgeLines (l ∷ ls) = judgeTexts (freshState (formOf (l .text))) 1 0 (texts (l ∷ ls))
 
--- FEED_LONG: "feed over 65,535 bytes"
+-- FEED_LONG: "feed over 65,535 bytes", and by document 02, (vi), "The feed limit becomes 16,777,215"
 abbrev pub feedLimit : ℕ
-feedLimit = 65535
+feedLimit = 16777215
 
 unfoldable pub judgeOf : List ℕ → ℕ → Judged
 judgeOf f k = elim (ltb feedLimit (length f)) [ true ↦ Refused Reasons.FeedLong 0 | false ↦ judgeLines (messageOf k f) ]
@@ -128,7 +128,8 @@ unfoldable pub groupOf : Form → ℕ → ℕ → ℕ
 groupOf Opm g c = elim (eqb c 29) [ true ↦ g + 1 | false ↦ g ]
 groupOf Oem g c = elim (eqb c 37) [ true ↦ g + 1 | false ↦ g ]
 
--- a line's rows: "five 16-bit numbers: code, group, line, start, length. Start is the value's position in the feed, from 0, unit excluded."
+-- a line's rows: "five 16-bit numbers: code, group, line, start, length. Start is the value's position in the feed, from 0, unit excluded."; by document 02,
+-- (vi), "rows become 32-bit numbers"
 unfoldable pub rowsAt : ℕ → ℕ → ℕ → ℕ → List Span → List Row
 rowsAt c g line at [] = []
 rowsAt c g line at (p ∷ ps) =

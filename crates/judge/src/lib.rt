@@ -11,7 +11,10 @@ ghost use Prim.Native.Nat.{_≤_};
 ghost use lib.ListN.{length, drop};
 ghost use Rattle.lines.specs.Feed.{lines, linesAt};
 ghost use Rattle.step.specs.Step.{noRow, freshState};
-ghost use Rattle.judge.specs.Message.{isHeading, formOf, fromHeading, headings, upTo, texts, endOf, judgeTexts, judgeOf, countOf, metOf, movedOf, foundOf, FoundIs};
+ghost use Rattle.judge.specs.Message.{isHeading, formOf, fromHeading, headings, upTo, texts, endOf, judgeTexts, judgeOf, countOf, metOf, movedOf, feedLimit, foundOf, FoundIs};
+
+// A feed has at most so many bytes.
+pub const FEED_LIMIT: usize = 16777215;
 
 // Accepted with its row count, or a reason and a line.
 pub enum Judged {
@@ -102,7 +105,7 @@ pub fn find_message(feed: &[u8], message: usize) -> Found
 
 // How many heading lines a feed has.
 fn headings_in(feed: &[u8]) -> u32
-    requires { ⌜ length (now feed) ≤ 65535 ⌝ }
+    requires { ⌜ length (now feed) ≤ feedLimit ⌝ }
     ensures { λ r. ⌜ r ≡ headings (lines (now (feed .entry))) ⌝ }
 {
     let mut n: u32 = 0;
@@ -122,7 +125,7 @@ fn headings_in(feed: &[u8]) -> u32
 pub fn count_headings(feed: &[u8]) -> Counted
     ensures { λ r. ⌜ r ≡ countOf (now (feed .entry)) ⌝ }
 {
-    if 65535 < feed.len() {
+    if FEED_LIMIT < feed.len() {
         return Counted::Barred(Reason::FeedLong);
     }
     Counted::Headings(headings_in(feed))
@@ -186,7 +189,7 @@ fn end_of(state: State, line: u32, rows: u32) -> Judged
 
 // The message that starts at a place, judged line by line.
 fn judge_from(feed: &[u8], from: usize, form: Form) -> Judged
-    requires { ⌜ length (now feed) ≤ 65535 ⌝ }
+    requires { ⌜ length (now feed) ≤ feedLimit ⌝ }
     ensures { λ r. ⌜ r ≡ judgeTexts (freshState form) 1 0 (texts (upTo true (linesAt from (drop from (now (feed .entry)))))) ⌝ }
 {
     let mut at = from;
@@ -213,7 +216,7 @@ fn judge_from(feed: &[u8], from: usize, form: Form) -> Judged
 pub fn judge(feed: &[u8], message: usize) -> Judged
     ensures { λ r. ⌜ r ≡ judgeOf (now (feed .entry)) message ⌝ }
 {
-    if 65535 < feed.len() {
+    if FEED_LIMIT < feed.len() {
         return Judged::Refused(Reason::FeedLong, 0);
     }
     match find_message(feed, message) {

@@ -11,8 +11,10 @@ use lib.IntN.{pos}
 use Rattle.desk.specs.declared.Desk.{Desk}
 use Rattle.desk.specs.declared.Ticket.{Ticket}
 use Rattle.desk.specs.declared.Loaded.{Loaded}
-use Rattle.rows.specs.declared.Heard.{Heard}
-use Rattle.rows.specs.declared.Heard.the-variants.{Spoken, Silent}
+use Rattle.tables.specs.declared.Heard.{Heard}
+use Rattle.tables.specs.declared.Heard.the-variants.{Spoken, Silent}
+use Rattle.tables.specs.declared.Resized.{Resized}
+use Rattle.tables.specs.declared.Resized.the-variants as Sizing
 use Rattle.write.specs.declared.Written.{Written}
 use Rattle.write.specs.declared.Written.the-variants as Writing
 use Rattle.rounding.specs.declared.Said.{Said}
@@ -57,3 +59,8 @@ writtenNos (Writing.Refused r l) = record { reason = reasonNo r; line = l; lengt
 abbrev pub roundedNos : Said → OdmRounded
 roundedNos (Saying.Units z) = record { reason = 0; units = z }
 roundedNos (Saying.Refused r) = record { reason = reasonNo r; units = pos 0 }
+
+-- the reason alone
+abbrev pub resizedNo : Resized → ℕ
+resizedNo Sizing.Done = 0
+resizedNo (Sizing.Refused r) = reasonNo r

@@ -7,16 +7,18 @@ use judge::Counted;
 use judge::Judged;
 use reasons::reason_number;
 use rounding::Said;
-use rows::Heard;
+use tables::Heard;
+use tables::Resized;
 use write::Written;
 ghost use mathlib.Core.Path.{_≡_};
 ghost use Rattle.judge.specs.Message.{countOf, judgeOf};
 ghost use lib.ListN.{length};
 ghost use Rattle.desk.specs.Loads.{loadOf, loadTable, readOf};
 ghost use Rattle.rounding.specs.Say.{sayOf};
+ghost use Rattle.tables.specs.Widths.{widenOf, widened, narrowOf, narrowed};
 ghost use Rattle.write.specs.Plain.{plainOf};
 ghost use Rattle.write.specs.Written.{writtenOf, bufferAfter};
-ghost use Rattle.odm.specs.Face.{countedNos, judgedNos, deskNos, ticketNos, placedNos, rowNos, writtenNos, roundedNos};
+ghost use Rattle.odm.specs.Face.{countedNos, judgedNos, deskNos, ticketNos, placedNos, rowNos, writtenNos, roundedNos, resizedNo};
 
 #[repr(C)]
 pub struct OdmCounted {
@@ -203,4 +205,32 @@ pub extern "C" fn odm_round(text: &[u8], decimals: u32) -> OdmRounded
             units: 0,
         },
     }
+}
+
+// The number of an answer about a table made at the other width.
+fn resized_number(resized: Resized) -> u32
+    ensures { λ r. ⌜ r ≡ resizedNo resized ⌝ }
+{
+    match resized {
+        Resized::Done => 0,
+        Resized::Refused(reason) => reason_number(reason),
+    }
+}
+
+// A recorded table of two bytes an entry made one of four.
+#[no_mangle]
+pub extern "C" fn odm_widen(narrow: &[u8], wide: &mut [u8]) -> u32
+    ensures answer { λ r. ⌜ r ≡ resizedNo (widenOf (now (narrow .entry)) (now (wide .entry))) ⌝ }
+    ensures table { λ _. ⌜ now (wide .exit) ≡ widened (now (narrow .entry)) (now (wide .entry)) ⌝ }
+{
+    resized_number(tables::widen(narrow, wide))
+}
+
+// A table made a recorded one of two bytes an entry, if every entry fits.
+#[no_mangle]
+pub extern "C" fn odm_narrow(wide: &[u8], narrow: &mut [u8]) -> u32
+    ensures answer { λ r. ⌜ r ≡ resizedNo (narrowOf (now (wide .entry)) (now (narrow .entry))) ⌝ }
+    ensures table { λ _. ⌜ now (narrow .exit) ≡ narrowed (now (wide .entry)) (now (narrow .entry)) ⌝ }
+{
+    resized_number(tables::narrow(wide, narrow))
 }

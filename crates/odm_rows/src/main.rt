@@ -7,7 +7,7 @@ use judge::Judged;
 use libc::STDIN_FILENO;
 use libc::STDOUT_FILENO;
 use reasons::Reason;
-use rows::Heard;
+use tables::Heard;
 ghost use mathlib.Core.Path.{_≡_};
 ghost use lib.ListN.{length};
 
@@ -45,6 +45,7 @@ fn say_reason(reason: Reason) {
         Reason::Astray => say(b"ASTRAY"),
         Reason::TooBig => say(b"TOO_BIG"),
         Reason::Places => say(b"PLACES"),
+        Reason::Wide => say(b"WIDE"),
     }
 }
 
@@ -123,16 +124,25 @@ fn say_messages(feed: &[u8], count: u32, table: &mut [u8]) {
     }
 }
 
+fn say_refused(reason: Reason) {
+    say(b"refused ");
+    say_reason(reason);
+    say(b"\n");
+}
+
+// This program keeps the feed limit that it always had; the library's is wider.
+const FEED_LIMIT: usize = 65535;
+
 fn say_feed(feed: &[u8], table: &mut [u8]) {
+    if FEED_LIMIT < feed.len() {
+        say_refused(Reason::FeedLong);
+        return;
+    }
     match judge::count_headings(feed) {
-        Counted::Barred(reason) => {
-            say(b"refused ");
-            say_reason(reason);
-            say(b"\n");
-        }
+        Counted::Barred(reason) => say_refused(reason),
         Counted::Headings(count) => {
             if count == 0 {
-                say(b"refused NO_MESSAGE\n");
+                say_refused(Reason::NoMessage);
                 return;
             }
             say_messages(feed, count, table);
@@ -140,11 +150,11 @@ fn say_feed(feed: &[u8], table: &mut [u8]) {
     }
 }
 
-// Room for the rows of any feed: at the most 7 rows for each 30 bytes, 10 bytes a row. The `ensures` gives only the length, which lending the array as a slice needs.
-fn table_space() -> [u8; 160000]
-    ensures { λ r. ⌜ 160000 ≡ length r ⌝ }
+// Room for the rows of any feed: at the most 7 rows for each 30 bytes, 20 bytes a row. The `ensures` gives only the length, which lending the array as a slice needs.
+fn table_space() -> [u8; 320000]
+    ensures { λ r. ⌜ 320000 ≡ length r ⌝ }
 {
-    [0; 160000]
+    [0; 320000]
 }
 
 fn main() {

@@ -1,8 +1,8 @@
--- The reasons' numbers: 1 to 16 by document 01's table, 17 and 18 by document 02, (v).
+-- The reasons' numbers: 1 to 16 by document 01's table, 17 and 18 by document 02, (v), 19 by (vi).
 -- Assumes nothing.
 use Prim.Native.Nat.{ℕ}
 use Rattle.reasons.specs.declared.Reason.{Reason}
-use Rattle.reasons.specs.declared.Reason.the-variants.{FeedLong, NoMessage, Long, Byte, Form, Keyword, Order, Value, Unit, TimeOrder, Short, NoRoom, Spent, Gone, NoRow, Astray, TooBig, Places}
+use Rattle.reasons.specs.declared.Reason.the-variants.{FeedLong, NoMessage, Long, Byte, Form, Keyword, Order, Value, Unit, TimeOrder, Short, NoRoom, Spent, Gone, NoRow, Astray, TooBig, Places, Wide}
 
 abbrev pub reasonNo : Reason → ℕ
 reasonNo FeedLong = 1
@@ -23,3 +23,4 @@ reasonNo NoRow = 15
 reasonNo Astray = 16
 reasonNo TooBig = 17
 reasonNo Places = 18
+reasonNo Wide = 19

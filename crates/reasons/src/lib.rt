@@ -22,6 +22,7 @@ pub enum Reason {
     Astray,
     TooBig,
     Places,
+    Wide,
 }
 
 // The documents' number of a reason.
@@ -47,5 +48,6 @@ pub fn reason_number(reason: Reason) -> u32
         Reason::Astray => 16,
         Reason::TooBig => 17,
         Reason::Places => 18,
+        Reason::Wide => 19,
     }
 }

@@ -9,8 +9,7 @@ use native.Mathlib.Omega.{arith}
 use lib.Dec.{eqb, ltb}
 use lib.ListN.{length, take, drop, getD, length-append}
 use borrow.Author.Tests.{le-ltb, ltb-false}
-use lib.Seq.{sets, sets-eq, length-take-le, drop-cons, getD-take}
-use Rattle.words.proofs.Laws.{sets-more}
+use lib.Seq.{length-take-le, drop-cons, getD-take}
 use Rattle.lines.specs.Feed.{Line}
 use Rattle.lines.specs.Text.{noSpan}
 use Rattle.lines.specs.declared.Span.{Span}
@@ -24,15 +23,15 @@ use Rattle.step.specs.declared.Step.{Step}
 use Rattle.step.specs.declared.Verdict.{Verdict}
 use Rattle.step.specs.declared.Verdict.the-variants.{Right, Wrong}
 use Rattle.step.proofs.Sound.{Spans, spans}
-use Rattle.judge.specs.Message.{formOf, texts, endOf, judgeTexts, judgeLines, messageOf, judgeOf, FoundIs, groupOf, rowsAt, rowsFrom, rowsLines, rowsOf}
+use Rattle.judge.specs.Message.{feedLimit, formOf, texts, endOf, judgeTexts, judgeLines, messageOf, judgeOf, FoundIs, groupOf, rowsAt, rowsFrom, rowsLines, rowsOf}
 use Rattle.judge.specs.declared.Found.the-variants.{Place}
 use Rattle.judge.specs.declared.Judged.{Judged}
 use Rattle.judge.specs.declared.Judged.the-variants.{Accepted, Refused}
 use Rattle.judge.specs.declared.Moved.{Moved}
 use Rattle.judge.specs.declared.Row.{Row}
 use Rattle.judge.proofs.Laws.{left, AtLine, judge-found, not-both, accepted-short}
-use Rattle.rows.proofs.Tables.{table-length}
-use Rattle.rows.specs.Table.{rowBytes, tableBytes, putRow, putRows}
+use Rattle.tables.proofs.Tables.{put-table}
+use Rattle.tables.specs.Table.{hostRow, putRow, putRows}
 use Rattle.rows.specs.Place.{roomFor, tableAfter, StepFits, Fillable}
 
 -- ---- a line's rows
@@ -66,9 +65,8 @@ put-turn n c g line at i k ps t h j =
 -- ---- what a step answers
 
 -- its rows fit, where the text stands in the feed and the table has room
-pub step-fits : (st : State) (s : List ℕ) (x : Step) (n at : ℕ) (t : List ℕ) → x ≡ stepOf st s → at + length s ≤ 65535 → 10 * (n + x .count) ≤ length t
-    → StepFits x n at t
-step-fits st s x n at t e h r =
+pub step-fits : (st : State) (s : List ℕ) (x : Step) (n at : ℕ) → x ≡ stepOf st s → at + length s ≤ feedLimit → n + x .count ≤ 4294967295 → StepFits x n at
+step-fits st s x n at e h r =
     let w : Spans s x = rw e (spans st s) in
     record {
       few = w .few;
@@ -76,8 +74,11 @@ step-fits st s x n at t e h r =
       order = λ i k. w .inside i k .order;
       end = λ i k. omega (arith, w .inside i k .end);
       code = w .code;
-      room = r;
+      last = r;
     }
+
+pub few : (st : State) (s : List ℕ) (x : Step) → x ≡ stepOf st s → x .count ≤ 7
+few st s x e = let w : Spans s x = rw e (spans st s) in w .few
 
 length-rows : (ps : List Span) (c g line at : ℕ) → length (rowsAt c g line at ps) ≡ length ps
 unfolding rowsAt
@@ -155,35 +156,23 @@ module _ (f : List ℕ) (k n : ℕ) (e : judgeOf f k ≡ Accepted n) where
 
   -- it stands where it was found
   module _ (p : ℕ) (form : Form) (q : FoundIs (Place p form) k f) where
-    pub found-fillable : (t : List ℕ) → 10 * n ≤ length t → Fillable f p form n t
-    found-fillable t h = record { limit = accepted-short f k n e; right = sym (judge-found f k (accepted-short f k n e) p form q) ∙ e; room = h }
+    pub found-fillable : Fillable f p form
+    found-fillable = record { limit = accepted-short f k n e; total = n; right = sym (judge-found f k (accepted-short f k n e) p form q) ∙ e }
 
 -- ---- a table filled
 
-put-sets : (rs : List Row) (n : ℕ) (t : List ℕ) → putRows n rs t ≡ sets t (10 * n) (tableBytes rs)
-unfolding putRows putRow tableBytes
-put-sets [] n t = refl
-put-sets (r ∷ rs) n t =
-    put-sets rs (n + 1) (putRow n r t) ∙ ap (λ (j : ℕ). sets (putRow n r t) j (tableBytes rs)) (omega arith) ∙ sets-more (rowBytes r) t (10 * n) (tableBytes rs)
-
--- the first rows' entries are filled, and the others as they came
-put-table : (rs : List Row) (n : ℕ) (t : List ℕ) → length rs ≡ n → 10 * n ≤ length t → putRows 0 rs t ≡ tableBytes rs ++ drop (10 * n) t
-put-table rs n t e h =
-    let q : 0 + length (tableBytes rs) ≡ 10 * n = omega (arith, table-length rs) in
-    put-sets rs 0 t ∙ sets-eq (tableBytes rs) t 0 (omega arith) ∙ ap (λ (j : ℕ). tableBytes rs ++ drop j t) q
-
 -- an acceptance with room is one of the judge, and has the room
-pub room-right : (bytes : ℕ) (j : Judged) (n : ℕ) → Accepted n ≡ roomFor bytes j → (j ≡ Accepted n) × (10 * n ≤ bytes)
+pub room-right : (bytes : ℕ) (j : Judged) (n : ℕ) → Accepted n ≡ roomFor bytes j → (j ≡ Accepted n) × (hostRow * n ≤ bytes)
 unfolding roomFor
 room-right bytes (Refused r l) n = λ e. absurd (not-both (sym e) refl)
-room-right bytes (Accepted m) n = go (ltb bytes (10 * m)) refl
+room-right bytes (Accepted m) n = go (ltb bytes (hostRow * m)) refl
   where
-    go : (t : Bool) → ltb bytes (10 * m) ≡ t → Accepted n ≡ elim t [ true ↦ Refused Reasons.NoRoom 0 | false ↦ Accepted m ] → (Accepted m ≡ Accepted n) × (10 * n ≤ bytes)
+    go : (t : Bool) → ltb bytes (hostRow * m) ≡ t → Accepted n ≡ elim t [ true ↦ Refused Reasons.NoRoom 0 | false ↦ Accepted m ] → (Accepted m ≡ Accepted n) × (hostRow * n ≤ bytes)
     go true q e = absurd (not-both (sym e) refl)
     go false q e = let z : n ≡ m = cc in (sym e, rw z (ltb-false _ _ q))
 
 -- so the table is filled as the answer says
-pub table-filled : (f : List ℕ) (k n : ℕ) (t : List ℕ) (rs : List Row) → judgeOf f k ≡ Accepted n → 10 * n ≤ length t → rowsOf f k ≡ rs
+pub table-filled : (f : List ℕ) (k n : ℕ) (t : List ℕ) (rs : List Row) → judgeOf f k ≡ Accepted n → hostRow * n ≤ length t → rowsOf f k ≡ rs
     → putRows 0 rs t ≡ tableAfter (Accepted n) (rowsOf f k) t
 unfolding tableAfter
 table-filled f k n t rs q h e = rw (← e) (put-table (rowsOf f k) n t (rows-count f k n q) h)

@@ -1,3 +1,1 @@
 pub mod Fills
-pub mod Hearing
-pub mod Tables

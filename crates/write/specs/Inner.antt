@@ -14,7 +14,7 @@ use Rattle.grammar.specs.declared.Form.{Form}
 use Rattle.step.specs.Step.{part, freshState, stepOf}
 use Rattle.step.specs.declared.State.{State}
 use Rattle.step.specs.declared.Step.{Step}
-use Rattle.judge.specs.Message.{judgeTexts, texts, upTo}
+use Rattle.judge.specs.Message.{feedLimit, judgeTexts, texts, upTo}
 use Rattle.judge.specs.declared.Judged.the-variants.{Accepted}
 use Rattle.write.specs.Plain.{Item, item, wordOf, leadOf, behind, plain}
 
@@ -98,6 +98,6 @@ plainFrom f from form = plain form (itemsFrom (freshState form) f (upTo true (li
 
 -- it is accepted
 pub record Writable (f : List ℕ) (from : ℕ) (form : Form) : Type 0 where
-  pub limit : length f ≤ 65535
+  pub limit : length f ≤ feedLimit
   pub rows : ℕ
   pub right : judgeTexts (freshState form) 1 0 (texts (upTo true (linesAt from (drop from f)))) ≡ Accepted rows

@@ -16,7 +16,7 @@ use Rattle.step.specs.Step.{Inside, part, freshState, stepOf}
 use Rattle.step.specs.declared.State.{State}
 use Rattle.step.specs.declared.Step.{Step}
 use Rattle.step.proofs.Sound.{spans}
-use Rattle.judge.specs.Message.{isHeading, formOf, fromHeading, headings, upTo, messageOf, texts, judgeTexts, judgeLines, judgeOf, groupOf, rowsAt, rowsFrom, rowsLines, rowsOf, FoundIs}
+use Rattle.judge.specs.Message.{isHeading, formOf, fromHeading, headings, upTo, messageOf, texts, judgeTexts, judgeLines, feedLimit, judgeOf, groupOf, rowsAt, rowsFrom, rowsLines, rowsOf, FoundIs}
 use Rattle.judge.specs.declared.Judged.the-variants.{Accepted}
 use Rattle.judge.specs.declared.Row.{Row}
 use Rattle.judge.proofs.Laws.{accepted-short, not-missing}
@@ -72,7 +72,7 @@ module _ (f : List ℕ) where
 
 -- the judgement and the rows of message k, from its lines' texts
 record Shows (f : List ℕ) (k : ℕ) (st : State) (ts : List (List ℕ)) : Type 0 where
-  judged : length f ≤ 65535 → judgeOf f k ≡ judgeTexts st 1 0 ts
+  judged : length f ≤ feedLimit → judgeOf f k ≡ judgeTexts st 1 0 ts
   rows : Rows f (rowsOf f k) (itemsTexts st ts) (groupsTexts st 0 ts)
 
 -- the state before them goes by any text whose heading is the first line's

@@ -1,6 +1,7 @@
 //! Cases about whole feeds: figures, message numbers, headings, several messages, and sizes.
 
-use super::{joined_sheets, oem, opm, row, wide_opm, Book, Sheet, Want, FULL_ROWS};
+use super::{day, joined_sheets, oem, opm, row, wide_opm, Book, Sheet, Want, FULL_ROWS};
+use crate::bytes::Bytes;
 use crate::judge::Reason::{self, *};
 
 /// The figures of document 002 as printed.
@@ -23,7 +24,7 @@ pub(super) fn figures(book: &mut Book) {
 pub(super) fn full_feed(book: &mut Book) {
     let feed: Vec<u8> = oem().into();
     assert_eq!(feed.len(), 244, "document 01's feed has 244 bytes");
-    let shown: Vec<(usize, [u16; 5])> = FULL_ROWS.into_iter().enumerate().collect();
+    let shown: Vec<(usize, [u32; 5])> = FULL_ROWS.into_iter().enumerate().collect();
     book.shows("the feed in full", feed, 19, &shown);
     book.falls("the feed without line 13", oem().drop(13), Short, 13);
     book.falls("the feed with line 12 twice", oem().twice(12), Order, 13);
@@ -149,35 +150,88 @@ fn garbage(book: &mut Book) {
     book.add("a byte in front of the heading on its line", joined, Ok(0), 1, Want::Refused(NoMessage, 0));
 }
 
-/// Feeds about the limit of 65,535 bytes; the full feed takes 244 of them.
+/// Feeds about 65,535 bytes, which was the limit before request (vi), and about 16,777,215; the full feed takes 244 of them.
 pub(super) fn sizes(book: &mut Book) {
-    let with = |tail: Vec<u8>| [oem().ended(b"\n"), tail].concat();
-    for size in [65_534, 65_535] {
-        book.stands(&format!("feed of {size} bytes, filled with LF"), with(vec![b'\n'; size - 244]), 19);
+    let with = |size: usize| Bytes::padded(oem(), size, b'\n');
+    let accepted = |rows| Want::Accepted { rows, shown: Vec::new() };
+    for size in [65_534, 65_535, 65_536, 65_537, 65_780, 131_072] {
+        book.add_shared(&format!("feed of {size} bytes, filled with LF"), &with(size), Ok(1), 1, accepted(19));
+        book.add_shared(&format!("feed of {size} bytes, message 2"), &with(size), Ok(1), 2, Want::Refused(NoMessage, 0));
     }
-    for size in [65_536, 65_537, 70_000, 131_072] {
-        for message in [1, 0] {
-            let feed = with(vec![b'\n'; size - 244]);
-            book.add(&format!("feed of {size} bytes, message {message}"), feed, Err(FeedLong), message, Want::Refused(FeedLong, 0));
+    for size in [16_777_214, 16_777_215] {
+        book.great(&format!("feed of {size} bytes, filled with LF"), with(size), accepted(19));
+    }
+    // 16,777,460 bytes are the 244 of the feed in full in 24 bits.
+    for size in [16_777_216, 16_777_217, 16_777_460, 33_554_432] {
+        let feed = with(size);
+        for message in [1, 0, 2] {
+            let name = format!("feed of {size} bytes, message {message}");
+            book.add_shared(&name, &feed, Err(FeedLong), message, Want::Refused(FeedLong, 0));
         }
     }
-    book.add("65,536 bytes without a heading", vec![b' '; 65_536], Err(FeedLong), 1, Want::Refused(FeedLong, 0));
-    book.add("65,535 bytes without a heading", vec![b' '; 65_535], Ok(0), 1, Want::Refused(NoMessage, 0));
-    book.add("65,535 line endings", vec![b'\r'; 65_535], Ok(0), 1, Want::Refused(NoMessage, 0));
-    // Line 14 begins at 244; each LF up to 65,534 ends one line, and the last byte is a line of its own.
-    book.falls("a wrong line with a great number", with([vec![b'\n'; 65_290], b"x".to_vec()].concat()), Form, 65_304);
-    book.falls("short at a great line number", [oem().drop(13).ended(b"\n"), vec![b'\n'; 65_323]].concat(), Short, 65_336);
-    // The last comment's value is the last byte of the greatest feed.
-    let comment = with([vec![b'\n'; 65_282], b"COMMENT x".to_vec()].concat());
-    book.shows("a value that is the feed's last byte", comment, 20, &[(19, [45, 1, 65_296, 65_534, 1])]);
-    let empty = with([vec![b'\n'; 65_284], b"COMMENT".to_vec()].concat());
-    book.shows("an empty value at the feed's end", empty, 20, &[(19, [45, 1, 65_298, 65_535, 0])]);
-    let long_tail = with([vec![b'\n'; 65_291 - 255], vec![b' '; 255]].concat());
-    book.falls("a long last line in the greatest feed", long_tail, Long, 65_050);
-    let messages = b"CCSDS_OPM_VERS=\n".repeat(4_095);
-    book.add("4,095 headings, the last", messages.clone(), Ok(4_095), 4_095, Want::Refused(Value, 1));
-    book.add("4,095 headings, one more", messages, Ok(4_095), 4_096, Want::Refused(NoMessage, 0));
-    let data: String = (0..2_000).map(|at| format!("2000-001T00:{:02}:{:02} 1 2 3 4 5 6\n", at / 60, at % 60)).collect();
-    let many = oem().put(11, "STOP_TIME=2000-002T00:00:00").drop(13).ended(b"\n");
-    book.stands("2,000 data lines", [many, data.into_bytes()].concat(), 14_012);
+    for size in [65_535, 65_536] {
+        let none = Want::Refused(NoMessage, 0);
+        book.add(&format!("{size} bytes without a heading"), vec![b' '; size], Ok(0), 1, none.clone());
+        book.add(&format!("{size} line endings"), vec![b'\r'; size], Ok(0), 1, none);
+    }
+    let blank = |size: usize| Bytes::padded(Vec::new(), size, b' ');
+    book.add_shared("16,777,215 bytes without a heading", &blank(16_777_215), Ok(0), 1, Want::Refused(NoMessage, 0));
+    book.add_shared("16,777,216 bytes without a heading", &blank(16_777_216), Err(FeedLong), 1, Want::Refused(FeedLong, 0));
+    great_lines(book);
+    great_values(book);
+    book.stands("10,000 data lines", day::seconds(10_000), 70_012);
+}
+
+/// The feed in full, so many LF and then a text.
+fn late(endings: usize, text: &[u8]) -> Vec<u8> {
+    [&oem().ended(b"\n"), &vec![b'\n'; endings], text].concat()
+}
+
+/// Refusals at lines about 65,536 and at the last line of the greatest feed: with so many LF after its 13 lines, what comes next is line 14 and so many more.
+fn great_lines(book: &mut Book) {
+    let before: Vec<u8> = b"CCSDS_OEM_VERS=1.0\n".to_vec();
+    for line in [65_304, 65_534, 65_535, 65_536, 65_537, 70_000, 131_072] {
+        let after = |text: &[u8]| late(line - 14, text);
+        book.falls(&format!("a wrong line, number {line}"), after(b"x"), Form, line);
+        book.falls(&format!("a long line, number {line}"), after(&[b' '; 255]), Long, line);
+        book.falls(&format!("a bad byte in line {line}"), after(b"\t"), Byte, line);
+        book.falls(&format!("a strange keyword in line {line}"), after(b"x="), Keyword, line);
+        book.falls(&format!("META_STOP in line {line}"), after(b"META_STOP\n"), Order, line);
+        book.falls(&format!("a wrong number in line {line}"), after(b"2000-001T00:00:00 1 2 3 4 5 .6"), Value, line);
+        book.falls(&format!("a late time in line {line}"), after(b"2000-001T00:00:01 1 2 3 4 5 6"), TimeOrder, line);
+        let short = [&before[..], &vec![b'\n'; line - 2]].concat();
+        book.falls(&format!("short at line {line}"), short, Short, line);
+        let state = [&opm().keep(9).ended(b"\n")[..], &vec![b'\n'; line - 10], b"X=1 [km]\n"].concat();
+        book.falls(&format!("a wrong unit in line {line}"), state, Unit, line);
+    }
+    // Each is a byte longer than the one before, from 65,534 bytes on.
+    for line in [65_303, 65_304, 65_305, 65_306] {
+        book.falls(&format!("a feed of {} bytes, its last one wrong", line + 231), late(line - 14, b"="), Keyword, line);
+    }
+    book.great("a wrong line at the end of the greatest feed", late(16_776_970, b"x"), Want::Refused(Form, 16_776_984));
+}
+
+/// Values about byte 65,536; the last comment's value is the last byte of its feed, or stands just past it.
+fn great_values(book: &mut Book) {
+    for (endings, line, start) in [(65_282, 65_296, 65_534), (65_283, 65_297, 65_535), (65_284, 65_298, 65_536), (65_522, 65_536, 65_774)] {
+        book.shows(&format!("a value at byte {start}"), late(endings, b"COMMENT x"), 20, &[(19, [45, 1, line, start, 1])]);
+        let empty = late(endings, b"COMMENT");
+        book.shows(&format!("an empty value just before byte {start}"), empty, 20, &[(19, [45, 1, line, start - 1, 0])]);
+    }
+}
+
+/// Headings by the thousand: one has 16 bytes, and 65,537 of them are 1 in 16 bits.
+pub(super) fn many_headings(book: &mut Book) {
+    let messages: Bytes = b"CCSDS_OPM_VERS=\n".repeat(70_000).into();
+    for message in [1, 65_535, 65_536, 65_537, 70_000] {
+        let name = format!("70,000 headings, message {message}");
+        book.add_shared(&name, &messages, Ok(70_000), message, Want::Refused(Value, 1));
+    }
+    for message in [0, 70_001, 135_536, 4_294_967_297] {
+        let name = format!("70,000 headings, message {message}");
+        book.add_shared(&name, &messages, Ok(70_000), message, Want::Refused(NoMessage, 0));
+    }
+    let last = [&messages[..], &oem().ended(b"\n")].concat();
+    let shown = vec![(0, row([36, 0, 1, 1_120_015, 3])), (18, row([15, 1, 13, 1_120_242, 1]))];
+    book.add("70,000 headings and a sound message", last, Ok(70_001), 70_001, Want::Accepted { rows: 19, shown });
 }

@@ -1,17 +1,21 @@
 //! Fixed cases: the figures of document 002, and every edge of documents 01 and 02, each with its answer written by hand.
 
+mod day;
 mod degree;
 mod desks;
 mod feeds;
 mod lines;
+mod moving;
 mod orders;
 mod saying;
 mod sending;
 mod sixty;
 mod values;
 
+use crate::bytes::Bytes;
 use crate::judge::{Reason, Row};
 pub use desks::{desks, DeskCases, LoadCase, ReadCase};
+pub use moving::{movings, MoveCase};
 pub use saying::{sayings, SayCase};
 pub use sending::{sendings, SendCase};
 
@@ -30,11 +34,13 @@ pub enum Want {
 #[derive(Clone, Debug)]
 pub struct Case {
     pub name: String,
-    pub feed: Vec<u8>,
+    pub feed: Bytes,
     /// What counting headings must say.
     pub headings: Result<usize, Reason>,
     pub message: u64,
     pub want: Want,
+    /// Whether it is judged and no more; the others are written and loaded again as well, which the greatest feeds take too long for.
+    pub only_judged: bool,
 }
 
 /// All fixed cases about judging.
@@ -46,6 +52,8 @@ pub fn all() -> Vec<Case> {
     feeds::headings(&mut book);
     feeds::several_messages(&mut book);
     feeds::sizes(&mut book);
+    feeds::many_headings(&mut book);
+    day::judged(&mut book);
     lines::endings(&mut book);
     lines::long_lines(&mut book);
     lines::bad_bytes(&mut book);
@@ -95,7 +103,19 @@ struct Book {
 
 impl Book {
     fn add(&mut self, name: &str, feed: Vec<u8>, headings: Result<usize, Reason>, message: u64, want: Want) {
-        self.cases.push(Case { name: name.to_string(), feed, headings, message, want });
+        self.add_shared(name, &feed.into(), headings, message, want);
+    }
+
+    /// A feed that more than one case asks about.
+    fn add_shared(&mut self, name: &str, feed: &Bytes, headings: Result<usize, Reason>, message: u64, want: Want) {
+        let feed = feed.clone();
+        self.cases.push(Case { name: name.to_string(), feed, headings, message, want, only_judged: false });
+    }
+
+    /// A great feed of one message, to be judged and no more.
+    fn great(&mut self, name: &str, feed: impl Into<Bytes>, want: Want) {
+        self.add_shared(name, &feed.into(), Ok(1), 1, want);
+        self.cases.iter_mut().rev().take(1).for_each(|case| case.only_judged = true);
     }
 
     /// A feed of one message that is accepted.
@@ -109,13 +129,13 @@ impl Book {
     }
 
     /// A feed of one message that is accepted, with some of its rows.
-    fn shows(&mut self, name: &str, feed: impl Into<Vec<u8>>, rows: usize, shown: &[(usize, [u16; 5])]) {
+    fn shows(&mut self, name: &str, feed: impl Into<Vec<u8>>, rows: usize, shown: &[(usize, [u32; 5])]) {
         let shown = shown.iter().map(|(at, numbers)| (*at, row(*numbers))).collect();
         self.add(name, feed.into(), Ok(1), 1, Want::Accepted { rows, shown });
     }
 }
 
-fn row([code, group, line, start, length]: [u16; 5]) -> Row {
+fn row([code, group, line, start, length]: [u32; 5]) -> Row {
     Row { code, group, line, start, length }
 }
 
@@ -185,6 +205,12 @@ impl From<Sheet> for Vec<u8> {
     }
 }
 
+impl From<Sheet> for Bytes {
+    fn from(sheet: Sheet) -> Bytes {
+        sheet.ended(b"\n").into()
+    }
+}
+
 /// A feed of these messages.
 fn joined_sheets(sheets: &[Sheet]) -> Vec<u8> {
     sheets.iter().flat_map(|sheet| sheet.ended(b"\n")).collect()
@@ -200,7 +226,7 @@ fn oem() -> Sheet {
 }
 
 /// The rows of document 01's feed.
-const FULL_ROWS: [[u16; 5]; 19] = [
+const FULL_ROWS: [[u32; 5]; 19] = [
     [36, 0, 1, 15, 3],
     [2, 0, 2, 33, 19],
     [3, 0, 3, 64, 1],
@@ -265,6 +291,7 @@ mod tests {
     use crate::say::say;
     use crate::send::send;
     use crate::weigh::weigh;
+    use crate::widths::shift;
 
     fn all_differ(mut names: Vec<String>, least: usize) {
         let count = names.len();
@@ -281,6 +308,29 @@ mod tests {
         all_differ(reads.into_iter().map(|case| case.name).collect(), 120);
         all_differ(sendings().into_iter().map(|case| case.name).collect(), 1_000);
         all_differ(sayings().into_iter().map(|case| case.name).collect(), 1_000);
+        all_differ(movings().into_iter().map(|case| case.name).collect(), 400);
+    }
+
+    #[test]
+    fn the_mover_gives_the_answers_written_by_hand() {
+        movings().iter().for_each(|case| assert!(shift(&case.moving) == case.want, "{}", case.name));
+    }
+
+    /// Request (vi)'s numbers, each over 16 bits somewhere, and a refusal at such a line for every reason that has a line.
+    #[test]
+    fn the_cases_have_numbers_over_16_bits() {
+        let cases = all();
+        let is_over = |number: u32| number > 65_535;
+        let shown =
+            || cases.iter().filter_map(|case| if let Want::Accepted { shown, .. } = &case.want { Some(shown) } else { None }).flatten();
+        assert!(shown().any(|(at, _)| is_over(*at as u32)));
+        for number in [|row: &Row| row.group, |row: &Row| row.line, |row: &Row| row.start] {
+            assert!(shown().any(|(_, row)| is_over(number(row))));
+        }
+        assert!(cases.iter().any(|case| case.headings.is_ok_and(|count| is_over(count as u32))));
+        for reason in (3..=11).filter_map(Reason::of_number) {
+            assert!(cases.iter().any(|case| matches!(case.want, Want::Refused(why, line) if why == reason && is_over(line as u32))));
+        }
     }
 
     #[test]

@@ -1,8 +1,10 @@
 //! Cases about writing a message: what goes out, down to every byte of the buffer, and what keeps the buffer as it was.
 
+use super::day;
 use super::degree::{with, DEGREE, METHOD};
 use super::desks::wrong;
 use super::{oem, opm, wide_oem, wide_opm, Sheet};
+use crate::bytes::Bytes;
 use crate::desk::{FINE, NO_ROOM};
 use crate::send::{Sending, Sent};
 
@@ -31,11 +33,12 @@ pub fn sendings() -> Vec<SendCase> {
     great_messages(&mut book);
     great_buffers(&mut book);
     refusals(&mut book);
+    day::sendings(&mut book);
     book.cases
 }
 
 /// The cases as they are gathered.
-struct SendBook {
+pub(super) struct SendBook {
     cases: Vec<SendCase>,
 }
 
@@ -53,26 +56,26 @@ fn lent(size: usize) -> Vec<u8> {
 }
 
 impl SendBook {
-    fn add(&mut self, name: String, feed: &[u8], message: u64, size: usize, want: Sent) {
-        self.cases.push(SendCase { name, sending: Sending { feed: feed.into(), message, buffer: lent(size) }, want });
+    fn add(&mut self, name: String, feed: &Bytes, message: u64, size: usize, want: Sent) {
+        self.cases.push(SendCase { name, sending: Sending { feed: feed.clone(), message, buffer: lent(size) }, want });
     }
 
     /// A message that goes out as this text, on a buffer of this size.
-    fn goes_out_into(&mut self, name: &str, feed: &[u8], message: u64, text: &[u8], size: usize) {
+    pub(super) fn goes_out_into(&mut self, name: &str, feed: &Bytes, message: u64, text: &[u8], size: usize) {
         let buffer = [text, &lent(size)[text.len()..]].concat();
         let want = Sent { reason: FINE, line: 0, length: text.len() as u32, buffer };
         self.add(format!("{name}, into {size} bytes"), feed, message, size, want);
     }
 
     /// A writing that leaves every byte of a buffer of this size.
-    fn falls_before(&mut self, name: &str, feed: &[u8], message: u64, (reason, line): (u32, u32), size: usize) {
+    pub(super) fn falls_before(&mut self, name: &str, feed: &Bytes, message: u64, (reason, line): (u32, u32), size: usize) {
         let want = Sent { reason, line, length: 0, buffer: lent(size) };
         self.add(format!("{name}, buffer of {size} bytes"), feed, message, size, want);
     }
 
     /// A message that goes out as this text if there is room, with buffers of lengths about the one needed.
     fn goes_out(&mut self, name: &str, among: Among, text: &[u8]) {
-        let feed = [among.before, among.own, among.after].concat();
+        let feed: Bytes = [among.before, among.own, among.after].concat().into();
         let needed = text.len();
         let mut sizes = vec![0, 1, needed / 2, needed - 1, needed, needed + 1, needed + 7, among.own.len(), feed.len()];
         sizes.sort_unstable();
@@ -93,6 +96,10 @@ impl SendBook {
 
     /// A message that is refused, with buffers that have room and buffers that don't.
     fn falls(&mut self, name: &str, feed: &[u8], message: u64, answer: (u32, u32)) {
+        self.falls_shared(name, &feed.into(), message, answer);
+    }
+
+    fn falls_shared(&mut self, name: &str, feed: &Bytes, message: u64, answer: (u32, u32)) {
         for size in [0, 1, 242, 243, 1_001] {
             self.falls_before(name, feed, message, answer, size);
         }
@@ -563,29 +570,32 @@ fn junk_before(book: &mut SendBook) {
     }
 }
 
-/// Messages as long as a feed may be: 243 bytes, 256 comments of 255 with their LF, and 12 for the last one.
+/// Messages about as long as a feed could be before request (vi): 243 bytes, 256 comments of 255 with their LF, and 12 for the last one.
 fn great_messages(book: &mut SendBook) {
     let comments = format!("\nCOMMENT {}", "y".repeat(246)).repeat(256);
     let whole = [oem().joined(), comments.into_bytes(), b"\nCOMMENT xyz".to_vec()].concat();
-    assert_eq!(whole.len(), 65_535, "the greatest feed");
-    book.alone("the greatest message", whole.clone(), &whole);
+    assert_eq!(whole.len(), 65_535, "the limit before");
+    book.alone("a message of 65,535 bytes", whole.clone(), &whole);
     let less = &whole[..65_534];
-    book.alone("the greatest message with a last ending", [less, b"\n"].concat(), less);
-    book.falls("a message too long by one byte", &[&whole[..], b"\n"].concat(), 1, (1, 0));
+    book.alone("a message of 65,534 bytes with a last ending", [less, b"\n"].concat(), less);
+    book.alone("a message of 65,535 bytes with a last ending", [&whole[..], b"\n"].concat(), &whole);
+    let more = [&whole[..], b"zz"].concat();
+    book.alone("a message of 65,537 bytes", more.clone(), more);
     let blank = [oem().ended(b"\n"), vec![b'\n'; 65_291]].concat();
-    book.alone("65,535 bytes, most of them LF", blank, oem().joined());
+    book.alone("65,535 bytes, most of them LF", blank.clone(), oem().joined());
+    book.alone("65,537 bytes, most of them LF", [&blank[..], b"\n\n"].concat(), oem().joined());
     let data = |between: &str| -> String {
         let line = |at| format!("2000-001T00:{:02}:{:02}{between}1 2 3 4 5{between}6", at / 60, at % 60);
-        (0..2_000).map(line).collect::<Vec<_>>().join("\n")
+        (0..3_000).map(line).collect::<Vec<_>>().join("\n")
     };
     let head = oem().put(11, "STOP_TIME=2000-002T00:00:00").drop(13);
-    book.alone("2,000 data lines", [head.ended(b"\n"), data("  ").into_bytes()].concat(), head.add(data(" ")).joined());
+    book.alone("3,000 data lines", [head.ended(b"\n"), data("  ").into_bytes()].concat(), head.add(data(" ")).joined());
 }
 
-/// Buffers whose length is small in 16 bits.
+/// Buffers whose length is small in 16 bits, or in 24.
 fn great_buffers(book: &mut SendBook) {
-    for size in [65_535, 65_536, 65_537, 65_636, 131_072, 131_314, 150_001] {
-        book.goes_out_into("the feed in full", &oem().ended(b"\n"), 1, &oem().joined(), size);
+    for size in [65_535, 65_536, 65_537, 65_636, 131_072, 131_314, 150_001, 16_777_459] {
+        book.goes_out_into("the feed in full", &oem().into(), 1, &oem().joined(), size);
     }
 }
 
@@ -595,12 +605,12 @@ fn refusals(book: &mut SendBook) {
         book.falls(&format!("{} at {line}", reason.name()), &feed, 1, (reason.number(), line));
     }
     let full: Vec<u8> = oem().into();
+    let long = Bytes::padded(oem(), 16_777_216, b'\n');
     for message in [0, 2, 3, 65_536, 65_537, 4_294_967_296, 4_294_967_297, 1 << 63, (1 << 63) + 1, u64::MAX] {
         book.falls(&format!("message {message} of one"), &full, message, (2, 0));
     }
     for message in [0, 1, u64::MAX] {
         book.falls(&format!("empty feed, message {message}"), b"", message, (2, 0));
-        let long = [&full[..], &vec![b'\n'; 65_536 - 244]].concat();
-        book.falls(&format!("feed long, message {message}"), &long, message, (1, 0));
+        book.falls_shared(&format!("feed long, message {message}"), &long, message, (1, 0));
     }
 }

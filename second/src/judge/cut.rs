@@ -32,16 +32,13 @@ impl<'f> Cut<'f> {
     }
 
     /// The runs of bytes other than blank.
-    pub fn fields(self) -> Vec<Cut<'f>> {
-        let mut at = 0;
-        let mut fields = Vec::new();
-        for piece in self.text.split(|&b| b == b' ') {
-            if !piece.is_empty() {
-                fields.push(self.part(at, at + piece.len()));
-            }
-            at += piece.len() + 1;
-        }
-        fields
+    pub fn fields(self) -> impl Iterator<Item = Cut<'f>> {
+        let mut rest = self;
+        std::iter::from_fn(move || {
+            let (field, after) = rest.first_field()?;
+            rest = after;
+            Some(field)
+        })
     }
 
     /// The first run of bytes other than blank, and what stands after it.
@@ -52,36 +49,29 @@ impl<'f> Cut<'f> {
     }
 }
 
-/// Where each line ending stands, and whether it takes one byte or two.
-fn endings(feed: &[u8]) -> Vec<(usize, usize)> {
-    let mut endings = Vec::new();
-    let mut at = 0;
-    while let Some(run) = feed[at..].iter().position(|b| matches!(b, b'\r' | b'\n')) {
-        let from = at + run;
-        let size = match &feed[from..] {
-            [b'\r', b'\n', ..] | [b'\n', b'\r', ..] => 2,
-            _ => 1,
-        };
-        endings.push((from, size));
-        at = from + size;
+/// Where the first line of a text ends, and whether its ending takes one byte or two, or none at the text's end.
+fn first_ending(text: &[u8]) -> (usize, usize) {
+    let Some(at) = text.iter().position(|b| matches!(b, b'\r' | b'\n')) else { return (text.len(), 0) };
+    match text[at..] {
+        [b'\r', b'\n', ..] | [b'\n', b'\r', ..] => (at, 2),
+        _ => (at, 1),
     }
-    endings
 }
 
-/// The lines of a feed, without their endings.
-pub fn lines(feed: &[u8]) -> Vec<Cut<'_>> {
-    let whole = Cut { at: 0, text: feed };
-    let mut lines = Vec::new();
-    let mut from = 0;
-    for (at, size) in endings(feed) {
-        lines.push(whole.part(from, at));
-        from = at + size;
-    }
-    // Text after the last ending is a line if it isn't empty.
-    if from < feed.len() {
-        lines.push(whole.part(from, feed.len()));
-    }
-    lines
+/// The lines of a feed, or of a part of it that begins where a line does, without their endings.
+/// They are cut one after the other and not kept: a feed of a day may have millions.
+pub fn lines(whole: Cut<'_>) -> impl Iterator<Item = Cut<'_>> {
+    let mut rest = whole;
+    std::iter::from_fn(move || {
+        // Text after the last ending is a line if it isn't empty.
+        if rest.text.is_empty() {
+            return None;
+        }
+        let (at, size) = first_ending(rest.text);
+        let line = rest.part(0, at);
+        rest = rest.part(at + size, rest.text.len());
+        Some(line)
+    })
 }
 
 /// Which message type a line begins, if it is a heading line.
@@ -109,7 +99,7 @@ mod tests {
     use super::*;
 
     fn texts(feed: &[u8]) -> Vec<(usize, &[u8])> {
-        lines(feed).into_iter().map(|line| (line.at, line.text)).collect()
+        lines(Cut { at: 0, text: feed }).map(|line| (line.at, line.text)).collect()
     }
 
     #[test]
@@ -127,7 +117,7 @@ mod tests {
 
     #[test]
     fn pairs_are_read_from_the_left() {
-        let count = |feed: &[u8]| lines(feed).len();
+        let count = |text: &[u8]| lines(Cut { at: 0, text }).count();
         assert_eq!(count(b"\n\n"), 2);
         assert_eq!(count(b"\r\r"), 2);
         assert_eq!(count(b"\r\n\r"), 2);
@@ -145,10 +135,20 @@ mod tests {
     }
 
     #[test]
+    fn lines_of_a_part_keep_their_place_in_the_feed() {
+        let whole = Cut { at: 0, text: b"a\r\nbc\n\rd" };
+        let all: Vec<Cut> = lines(whole).collect();
+        for from in 0..all.len() {
+            let part = whole.part(all[from].at, whole.text.len());
+            assert_eq!(lines(part).collect::<Vec<_>>(), all[from..]);
+        }
+    }
+
+    #[test]
     fn cuts_keep_their_place() {
         let cut = Cut { at: 10, text: b"  a  bc " };
         assert_eq!(cut.trimmed(), Cut { at: 12, text: b"a  bc" });
-        assert_eq!(cut.fields(), [Cut { at: 12, text: b"a" }, Cut { at: 15, text: b"bc" }]);
+        assert_eq!(cut.fields().collect::<Vec<_>>(), [Cut { at: 12, text: b"a" }, Cut { at: 15, text: b"bc" }]);
         assert_eq!(cut.first_field(), Some((Cut { at: 12, text: b"a" }, Cut { at: 13, text: b"  bc " })));
         let cut = Cut { at: 10, text: b"a=b=c" };
         assert_eq!(cut.parted(b'='), Some((Cut { at: 10, text: b"a" }, Cut { at: 12, text: b"b=c" })));

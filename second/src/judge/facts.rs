@@ -29,9 +29,21 @@ pub struct Fact<'f> {
     pub what: What<'f>,
 }
 
-/// The facts of a message; blank lines are counted but say nothing.
-pub fn facts<'f>(kind: Kind, lines: &[Cut<'f>]) -> Vec<Fact<'f>> {
-    (1..).zip(lines).filter_map(|(line, text)| what(kind, *text).map(|what| Fact { line, what })).collect()
+/// The facts of a message, and how many lines they come from; blank lines are counted but say nothing.
+/// Nothing is heard after a line that is wrong by itself: no fault of a later line is less than its own.
+pub fn facts<'f>(kind: Kind, lines: impl Iterator<Item = Cut<'f>>) -> (Vec<Fact<'f>>, usize) {
+    let mut facts = Vec::new();
+    let mut count = 0;
+    for text in lines {
+        count += 1;
+        let Some(what) = what(kind, text) else { continue };
+        let is_wrong = matches!(what, What::Wrong(_));
+        facts.push(Fact { line: count, what });
+        if is_wrong {
+            break;
+        }
+    }
+    (facts, count)
 }
 
 fn what(kind: Kind, line: Cut<'_>) -> Option<What<'_>> {
@@ -87,6 +99,17 @@ mod tests {
         assert!(is_wrong(one(Kind::Oem, b"COMMENT=1"), Reason::Keyword));
         assert!(is_wrong(one(Kind::Opm, b"=1"), Reason::Keyword));
         assert!(one(Kind::Opm, b"   ").is_none());
+    }
+
+    #[test]
+    fn nothing_is_heard_after_a_wrong_line() {
+        let heard = |text: &[u8]| {
+            let (facts, count) = facts(Kind::Opm, super::super::cut::lines(Cut { at: 0, text }));
+            (facts.iter().map(|fact| fact.line).collect::<Vec<_>>(), count)
+        };
+        assert_eq!(heard(b""), (vec![], 0));
+        assert_eq!(heard(b"\nCOMMENT\n\nX=1\n\n"), (vec![2, 4], 5));
+        assert_eq!(heard(b"\nCOMMENT\n\nx\nX=1\n\n"), (vec![2, 4], 4));
     }
 
     #[test]

@@ -57,7 +57,7 @@ fn unit_stands(word: &Word, rest: &Cut) -> bool {
 }
 
 fn fields_stand(fields: &[Cut; 7]) -> bool {
-    DATA_FIELDS.iter().zip(fields).all(|(code, field)| value_stands(coded(*code), field))
+    DATA_FIELDS.iter().zip(fields).all(|(code, field)| value_stands(coded((*code).into()), field))
 }
 
 /// VALUE for every second 60 in a stretch of facts that does not begin by naming UTC.
@@ -168,8 +168,8 @@ mod tests {
     use super::*;
 
     fn oem(text: &str) -> Option<Fault> {
-        let lines = lines(text.as_bytes());
-        least(Kind::Oem, &facts(Kind::Oem, &lines), lines.len())
+        let (facts, count) = facts(Kind::Oem, lines(Cut { at: 0, text: text.as_bytes() }));
+        least(Kind::Oem, &facts, count)
     }
 
     const HEAD: &str = "CCSDS_OEM_VERS=1.0\nCREATION_DATE=2000-001T00:00:00\nORIGINATOR=a\nMETA_START\nOBJECT_NAME=a\nOBJECT_ID=a\nCENTER_NAME=a\nREF_FRAME=a\nTIME_SYSTEM=a\nSTART_TIME=2000-001T00:00:00\nSTOP_TIME=2000-01-02T00:00:00\nMETA_STOP\n";

@@ -16,7 +16,7 @@ pub use shape::{is_leap, is_number};
 pub use words::{coded, Wanted};
 
 /// A feed has at most this many bytes.
-pub const FEED_LIMIT: usize = 65_535;
+pub const FEED_LIMIT: usize = 16_777_215;
 
 /// Why a message is refused, with document 01's number.
 #[derive(Clone, Copy, Debug, PartialEq, Eq, PartialOrd, Ord, Hash)]
@@ -90,10 +90,11 @@ pub enum Answer {
     Refused { reason: Reason, line: usize },
 }
 
-/// A feed cut into its lines once, so that many messages can be asked for.
+/// A feed whose headings have been looked for once, so that many messages can be asked for.
 pub struct Feed<'f> {
     too_long: bool,
-    lines: Vec<Cut<'f>>,
+    whole: Cut<'f>,
+    /// Where each heading line begins.
     headings: Vec<(usize, Kind)>,
 }
 
@@ -101,9 +102,9 @@ impl<'f> Feed<'f> {
     pub fn new(bytes: &'f [u8]) -> Feed<'f> {
         let too_long = bytes.len() > FEED_LIMIT;
         // A feed that is refused whole is not looked into.
-        let lines = if too_long { Vec::new() } else { cut::lines(bytes) };
-        let headings = lines.iter().enumerate().filter_map(|(at, line)| is_heading(line.text).map(|kind| (at, kind))).collect();
-        Feed { too_long, lines, headings }
+        let whole = Cut { at: 0, text: if too_long { &[] } else { bytes } };
+        let headings = cut::lines(whole).filter_map(|line| is_heading(line.text).map(|kind| (line.at, kind))).collect();
+        Feed { too_long, whole, headings }
     }
 
     /// How many headings there are, or FEED_LONG.
@@ -121,23 +122,28 @@ impl<'f> Feed<'f> {
         }
         match self.message(message) {
             None => Answer::Refused { reason: Reason::NoMessage, line: 0 },
-            Some((kind, lines)) => decide(kind, lines),
+            Some((kind, text)) => decide(kind, text),
         }
     }
 
     /// Where a line of a message stands; the line's number is from 1.
     pub fn place(&self, message: u64, line: usize) -> Option<Place> {
-        let (_, lines) = self.message(message)?;
-        let line = lines.get(line.checked_sub(1)?)?;
-        Some(Place { message_start: lines[0].at, line_start: line.at, line_end: line.at + line.text.len() })
+        let (_, text) = self.message(message)?;
+        let line = cut::lines(text).nth(line.checked_sub(1)?)?;
+        Some(Place { message_start: text.at, line_start: line.at, line_end: line.at + line.text.len() })
     }
 
-    /// The type and the lines of a message, if there is one with this number.
-    fn message(&self, message: u64) -> Option<(Kind, &[Cut<'f>])> {
+    /// The lines of a message, without their endings; none, if there is no such message.
+    pub fn lines(&self, message: u64) -> impl Iterator<Item = &'f [u8]> {
+        self.message(message).into_iter().flat_map(|(_, text)| cut::lines(text).map(|line| line.text))
+    }
+
+    /// The type and the text of a message, if there is one with this number.
+    fn message(&self, message: u64) -> Option<(Kind, Cut<'f>)> {
         let index = usize::try_from(message.checked_sub(1)?).ok()?;
         let &(from, kind) = self.headings.get(index)?;
-        let to = self.headings.get(index + 1).map_or(self.lines.len(), |next| next.0);
-        Some((kind, &self.lines[from..to]))
+        let to = self.headings.get(index + 1).map_or(self.whole.text.len(), |next| next.0);
+        Some((kind, self.whole.part(from, to)))
     }
 }
 
@@ -150,9 +156,9 @@ pub struct Place {
 }
 
 /// The least fault of a message, or its rows.
-fn decide(kind: Kind, lines: &[Cut]) -> Answer {
-    let facts = facts::facts(kind, lines);
-    match faults::least(kind, &facts, lines.len()) {
+fn decide(kind: Kind, text: Cut) -> Answer {
+    let (facts, lines) = facts::facts(kind, cut::lines(text));
+    match faults::least(kind, &facts, lines) {
         Some((line, reason)) => Answer::Refused { reason, line },
         None => Answer::Accepted(rows::rows(&facts)),
     }
@@ -186,8 +192,10 @@ mod tests {
     fn a_message_runs_to_the_next_heading() {
         let feed = Feed::new(b"junk\nCCSDS_OPM_VERS=1.0\n\n CCSDS_OEM_VERS =x\ny");
         assert_eq!(feed.headings(), Ok(2));
-        assert_eq!(feed.message(1).map(|(kind, lines)| (kind, lines.len())), Some((Kind::Opm, 2)));
-        assert_eq!(feed.message(2).map(|(kind, lines)| (kind, lines.len())), Some((Kind::Oem, 2)));
+        assert_eq!(feed.message(1), Some((Kind::Opm, Cut { at: 5, text: b"CCSDS_OPM_VERS=1.0\n\n" })));
+        assert_eq!(feed.message(2), Some((Kind::Oem, Cut { at: 25, text: b" CCSDS_OEM_VERS =x\ny" })));
+        assert_eq!(feed.lines(1).collect::<Vec<_>>(), [&b"CCSDS_OPM_VERS=1.0"[..], b""]);
+        assert_eq!(feed.lines(3).count(), 0);
         assert_eq!(feed.place(2, 2), Some(Place { message_start: 25, line_start: 44, line_end: 45 }));
         assert_eq!(feed.place(2, 3), None);
         assert!(feed.message(0).is_none() && feed.message(3).is_none() && feed.message(u64::MAX).is_none());
@@ -195,8 +203,9 @@ mod tests {
 
     #[test]
     fn the_limit_is_the_feeds_own() {
-        assert_eq!(headings(&[b' '; FEED_LIMIT]), Ok(0));
-        assert_eq!(headings(&[b' '; FEED_LIMIT + 1]), Err(Reason::FeedLong));
-        assert_eq!(judge(&[b' '; FEED_LIMIT + 1], 0), Answer::Refused { reason: Reason::FeedLong, line: 0 });
+        let feed = vec![b' '; FEED_LIMIT + 1];
+        assert_eq!(headings(&feed[1..]), Ok(0));
+        assert_eq!(headings(&feed), Err(Reason::FeedLong));
+        assert_eq!(judge(&feed, 0), Answer::Refused { reason: Reason::FeedLong, line: 0 });
     }
 }

@@ -7,11 +7,11 @@ use super::words::{COMMENT, DATA_FIELDS, MAN_EPOCH_IGNITION, META_START};
 /// One row of the table.
 #[derive(Clone, Copy, Debug, PartialEq, Eq)]
 pub struct Row {
-    pub code: u16,
-    pub group: u16,
-    pub line: u16,
-    pub start: u16,
-    pub length: u16,
+    pub code: u32,
+    pub group: u32,
+    pub line: u32,
+    pub start: u32,
+    pub length: u32,
 }
 
 /// The rows in reading order.
@@ -39,6 +39,6 @@ fn coded_values<'f>(fact: &Fact<'f>) -> Vec<(u8, Cut<'f>)> {
 }
 
 fn row(code: u8, group: usize, line: usize, value: Cut) -> Row {
-    let short = |number: usize| u16::try_from(number).expect("a feed within its limit has no number over 16 bits");
-    Row { code: u16::from(code), group: short(group), line: short(line), start: short(value.at), length: short(value.text.len()) }
+    let short = |number: usize| u32::try_from(number).expect("a feed within its limit has no number over 32 bits");
+    Row { code: u32::from(code), group: short(group), line: short(line), start: short(value.at), length: short(value.text.len()) }
 }

@@ -43,9 +43,12 @@ pub fn is_number(value: &[u8]) -> bool {
 
 /// Digits on both sides of a period, or digits alone; 16 at most.
 fn is_fixed(body: &[u8]) -> bool {
-    let pieces: Vec<&[u8]> = body.split(|&b| b == b'.').collect();
-    let digits: usize = pieces.iter().map(|piece| piece.len()).sum();
-    pieces.len() <= 2 && pieces.iter().all(|piece| all_digits(piece)) && digits <= 16
+    let (whole, part) = match body.iter().position(|&b| b == b'.') {
+        Some(at) => (&body[..at], Some(&body[at + 1..])),
+        None => (body, None),
+    };
+    // A second period is no digit.
+    all_digits(whole) && part.is_none_or(all_digits) && whole.len() + part.map_or(0, <[u8]>::len) <= 16
 }
 
 /// One digit, a period, 1 to 15 digits.
@@ -119,7 +122,17 @@ fn calendar_day(date: &[u8]) -> Option<[u8; 10]> {
     if year == 0 || day == 0 || day > length {
         return None;
     }
-    format!("{year:04}-{month:02}-{day:02}").into_bytes().try_into().ok()
+    let [month, day] = [month, day].map(two_digits);
+    let mut text = *b"YYYY-MM-DD";
+    text[..4].copy_from_slice(&date[..4]);
+    text[5..7].copy_from_slice(&month);
+    text[8..].copy_from_slice(&day);
+    Some(text)
+}
+
+/// A number below 100 as its two digits.
+fn two_digits(number: u32) -> [u8; 2] {
+    [number / 10, number % 10].map(|digit| b'0' + digit as u8)
 }
 
 /// The month and day of a day of the year, if the year has it.

@@ -72,7 +72,17 @@ fn data(line: Cut<'_>, kind: Kind) -> Option<Sort<'_>> {
     if kind != Kind::Oem {
         return None;
     }
-    <[Cut; 7]>::try_from(line.fields()).ok().map(Sort::Data)
+    seven(line).map(Sort::Data)
+}
+
+/// The fields of a line, if they are seven.
+fn seven(line: Cut<'_>) -> Option<[Cut<'_>; 7]> {
+    let mut fields = line.fields();
+    let mut seven = [line.part(0, 0); 7];
+    for place in &mut seven {
+        *place = fields.next()?;
+    }
+    fields.next().is_none().then_some(seven)
 }
 
 #[cfg(test)]

@@ -97,8 +97,8 @@ pub fn named(name: &[u8]) -> Option<&'static Word> {
 }
 
 /// The keyword with this code.
-pub fn coded(code: impl Into<usize>) -> &'static Word {
-    &WORDS[code.into() - 1]
+pub fn coded(code: u32) -> &'static Word {
+    &WORDS[code as usize - 1]
 }
 
 #[cfg(test)]
@@ -110,7 +110,7 @@ mod tests {
         for (at, word) in WORDS.iter().enumerate() {
             assert_eq!(usize::from(word.code), at + 1);
             assert_eq!(named(word.name.as_bytes()), Some(word));
-            assert_eq!(coded(word.code), word);
+            assert_eq!(coded(word.code.into()), word);
         }
     }
 
@@ -126,7 +126,7 @@ mod tests {
             (META_STOP, "META_STOP"),
             (COMMENT, "COMMENT"),
         ];
-        named.iter().for_each(|(code, name)| assert_eq!(coded(*code).name, *name));
+        named.iter().for_each(|(code, name)| assert_eq!(coded((*code).into()).name, *name));
     }
 
     #[test]

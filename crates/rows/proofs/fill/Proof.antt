@@ -1,6 +1,6 @@
 -- `rows::fill` meets its contract. The invariant: the lines left are still accepted, and their rows, put from here on, give what all of them would have given.
 -- Assumes nothing.
-use Prim.Native.Nat.{_+_, _-_, _≤_, _<_}
+use Prim.Native.Nat.{ℕ, _+_, _-_, _*_, _≤_, _<_}
 use mathlib.Core.Path.{_≡_, refl, sym, _∙_}
 use mathlib.Core.Bool.{true, false}
 use native.Mathlib.Omega.{arith}
@@ -12,17 +12,17 @@ use Rattle.step.specs.declared.Verdict.the-variants.{Right}
 use Rattle.judge.specs.declared.Judged.the-variants.{Accepted}
 use Rattle.judge.specs.Message.{texts, judgeTexts, rowsFrom}
 use Rattle.judge.proofs.Laws.{left, AtLine, walk-on, walk-end, judged-wrong, judged-right, not-both}
-use Rattle.rows.specs.Table.{putRows}
-use Rattle.rows.proofs.Fills.{accepted, step-fits, fill-end, fill-turn, group-le}
+use Rattle.tables.specs.Table.{putRows}
+use Rattle.rows.proofs.Fills.{few, step-fits, fill-end, fill-turn, group-le}
 use Rattle.rows.proofs.fill.Statement.{statement}
 use Rattle.rows.proofs.fill.Tie as tie
 
 abbrev Inv-loop : tie.InvT-loop
-Inv-loop feed from total table₀ at₀ line₀ group₀ n₀ state₀ table at line group n state =
-    (judgeTexts state line n (texts (left feed at (eqb line 1))) ≡ Accepted total) × (putRows 0 (rowsFrom state₀ 0 1 (left feed from true)) table₀ ≡ putRows n (rowsFrom state group line (left feed at (eqb line 1))) table) × (1 ≤ line) × (line ≤ at + 1) × (group < line) × (length table ≡ length table₀)
+Inv-loop feed from table₀ at₀ line₀ group₀ n₀ state₀ table at line group n state =
+    ((total : ℕ) × (judgeTexts state line n (texts (left feed at (eqb line 1))) ≡ Accepted total)) × (putRows 0 (rowsFrom state₀ 0 1 (left feed from true)) table₀ ≡ putRows n (rowsFrom state group line (left feed at (eqb line 1))) table) × (1 ≤ line) × (line ≤ at + 1) × (group < line) × (n ≤ 7 * at) × (length table ≡ length table₀)
 
 abbrev μ-loop : tie.MeasureT-loop
-μ-loop feed from total table₀ at₀ line₀ group₀ n₀ state₀ table at line group n state = length feed - at
+μ-loop feed from table₀ at₀ line₀ group₀ n₀ state₀ table at line group n state = length feed - at
 
 -- the walk is at a line that is right
 at-line : (c : tie.After-enum-told3 Inv-loop μ-loop) → let l = c .before .before .before in
@@ -31,25 +31,22 @@ at-line c = walk-on _ _ _ _ _ (c .before .before .next-line .ensures) Right (c .
 
 -- the lines after it are accepted too
 still-right : (c : tie.After-enum-told3 Inv-loop μ-loop) → let l = c .before .before .before in let m = c .before .before .next-line .result in
-    judgeTexts (m .step .state) (l .loop .line + 1) (l .loop .n + m .step .count) (texts (left (l .before .before .before .before .args .feed .now) (m .next) false))
-    ≡ Accepted (l .before .before .before .before .args .total)
+    (total : ℕ) × (judgeTexts (m .step .state) (l .loop .line + 1) (l .loop .n + m .step .count) (texts (left (l .before .before .before .before .args .feed .now) (m .next) false)) ≡ Accepted total)
 still-right c =
     let a = c .before .before in
-    sym (judged-right _ _ _ _ _ (a .next-line .ensures) _ _ (c .enum-told3 .given .1)) ∙ a .before .loop .inv .0
+    let h = a .before .loop .inv .0 in
+    (h .0, sym (judged-right _ _ _ _ _ (a .next-line .ensures) _ _ (c .enum-told3 .given .1)) ∙ h .1)
 
 -- so the counts fit
 counts : (c : tie.After-enum-told3 Inv-loop μ-loop) → let l = c .before .before .before in let m = c .before .before .next-line .result in
-    (l .loop .at < m .next) × (m .next ≤ length (l .before .before .before .before .args .feed .now)) × (l .loop .n + m .step .count ≤ l .before .before .before .before .args .total)
-counts c =
-    let w = at-line c in
-    let f = c .before .before .before .before .before .before .before .args .feed .now in
-    (w .on, w .next, omega (arith, accepted (left f (c .before .before .next-line .result .next) false) _ 0 _ _ _ (still-right c)))
+    (l .loop .at < m .next) × (m .next ≤ length (l .before .before .before .before .args .feed .now)) × (m .step .count ≤ 7)
+counts c = let w = at-line c in (w .on, w .next, few _ (w .text) _ (w .step))
 
 fresh-requires : tie.Need-fresh-requires Inv-loop μ-loop
 fresh-requires c κs = tt
 
 loop-holds : tie.Need-loop-holds Inv-loop μ-loop
-loop-holds c = (rw (c .fresh .ensures) (c .before .before .before .pre .right), refl, omega arith, omega arith, omega arith, refl)
+loop-holds c = let p = c .before .before .before .pre in ((p .total, rw (c .fresh .ensures) (p .right)), refl, omega arith, omega arith, omega arith, omega arith, refl)
 
 next-line-requires : tie.Need-next-line-requires Inv-loop μ-loop
 next-line-requires c κs = tt
@@ -75,7 +72,7 @@ same-length-2 c = omega arith
 returns-2 : tie.Need-returns-2 Inv-loop μ-loop
 returns-2 c =
     let a = c .before .before in
-    absurd (not-both (a .before .loop .inv .0) (judged-wrong _ _ _ _ _ (a .next-line .ensures) _ _ _ (c .enum-told2 .given .1)))
+    absurd (not-both (a .before .loop .inv .0 .1) (judged-wrong _ _ _ _ _ (a .next-line .ensures) _ _ _ (c .enum-told2 .given .1)))
 
 enum-told-3 : tie.Need-enum-told-3 Inv-loop μ-loop
 enum-told-3 c = search needs
@@ -89,10 +86,15 @@ put-rows-requires c κs =
     let w = at-line b in
     let l = b .before .before .before in
     let s = l .before .before .before .before in
-    step-fits _ (w .text) _ _ _ _ (w .step) (omega (arith, w .fits, w .next, s .pre .limit)) (omega (arith, counts b, s .pre .room, l .loop .inv .5))
+    step-fits _ (w .text) _ _ _ (w .step) (omega (arith, w .fits, w .next, s .pre .limit)) (omega (arith, counts b, s .pre .limit))
+
+cast-n : tie.Need-cast-n Inv-loop μ-loop
+cast-n c = omega (arith, counts (c .before .before .before .before .before .before .before))
 
 add-n : tie.Need-add-n Inv-loop μ-loop
-add-n c = omega (arith, counts (c .before .before .before .before .before .before .before), c .before .before .before .before .before .before .before .before .before .before .before .before .before .before .good .1 .1 .1 .0)
+add-n c =
+    let b = c .before .before .before .before .before .before .before in
+    omega (arith, counts b, b .before .before .before .before .before .before .before .pre .limit)
 
 add-line : tie.Need-add-line Inv-loop μ-loop
 add-line c = omega (arith, counts (c .before .before .before .before .before .before .before))
@@ -112,7 +114,8 @@ loop-again c =
       omega arith,
       omega (arith, counts b),
       rw (g .group-after .ensures) (omega (arith, group-le (l .state .form) (l .group) (b .before .before .next-line .result .step .code))),
-      p .put-rows .kept .0 ∙ l .inv .5,
+      omega (arith, counts b),
+      p .put-rows .kept .0 ∙ l .inv .6,
     )
 
 pub fill-spec : {M : Type 1} → statement M
@@ -133,6 +136,7 @@ fill-spec =
     enum-told-3
     group-after-requires
     put-rows-requires
+    cast-n
     add-n
     add-line
     loop-less

@@ -5,8 +5,8 @@ use mathlib.Core.Path.{_≡_, refl, sym, _∙_}
 use native.Mathlib.Omega.{arith}
 use lib.ListN.{length, take, drop, getD, length-take, length-drop}
 use Rattle.lines.specs.Text.{noSpan}
-use Rattle.judge.specs.Message.{rowsAt}
-use Rattle.rows.specs.Table.{putRows}
+use Rattle.judge.specs.Message.{feedLimit, rowsAt}
+use Rattle.tables.specs.Table.{putRows}
 use Rattle.rows.proofs.Fills.{put-none, put-turn}
 use Rattle.rows.proofs.put_rows.Statement.{statement}
 use Rattle.rows.proofs.put_rows.Tie as tie
@@ -20,7 +20,7 @@ abbrev μ-loop : tie.MeasureT-loop
 
 -- the span in hand lies in the feed
 span-fits : (c : tie.After-p Inv-loop μ-loop) → let p = getD (c .before .before .before .before .before .before .args .step .spans) (c .before .before .loop .i) noSpan in
-    (p .from ≤ p .to) × (c .before .before .before .before .before .before .args .at + p .to ≤ 65535)
+    (p .from ≤ p .to) × (c .before .before .before .before .before .before .args .at + p .to ≤ feedLimit)
 span-fits c =
     let s = c .before .before .before .before .before .before .pre in
     let i = c .before .before .loop .i in
@@ -37,20 +37,20 @@ loop-holds c =
     let v : a .step .code + 0 ≡ a .step .code = omega arith in
     (omega arith, refl, rw (u, v))
 
+cast-k : tie.Need-cast-k Inv-loop μ-loop
+cast-k c = omega arith
+
 mul-p : tie.Need-mul-p Inv-loop μ-loop
 mul-p c = omega arith
 
 array-copy-out-p : tie.Need-array-copy-out-p Inv-loop μ-loop
 array-copy-out-p c = omega arith
 
-cast-t18 : tie.Need-cast-t18 Inv-loop μ-loop
-cast-t18 c = omega arith
+add-put-row : tie.Need-add-put-row Inv-loop μ-loop
+add-put-row c = omega arith
 
-add-t19 : tie.Need-add-t19 Inv-loop μ-loop
-add-t19 c = omega arith
-
-add-t14 : tie.Need-add-t14 Inv-loop μ-loop
-add-t14 c = omega (arith, span-fits (c .before))
+add-t15 : tie.Need-add-t15 Inv-loop μ-loop
+add-t15 c = omega (arith, span-fits (c .before))
 
 cast-t20 : tie.Need-cast-t20 Inv-loop μ-loop
 cast-t20 c = omega (arith, span-fits (c .before))
@@ -61,8 +61,8 @@ sub-t21 c = omega (arith, span-fits (c .before .before))
 cast-t22 : tie.Need-cast-t22 Inv-loop μ-loop
 cast-t22 c = omega (arith, span-fits (c .before .before))
 
-add-put-row : tie.Need-add-put-row Inv-loop μ-loop
-add-put-row c = omega arith
+add-put-row-2 : tie.Need-add-put-row-2 Inv-loop μ-loop
+add-put-row-2 c = omega arith
 
 put-row-requires : tie.Need-put-row-requires Inv-loop μ-loop
 put-row-requires c κs = omega arith
@@ -99,15 +99,15 @@ put-rows-spec =
     μ-loop
     cast-code
     loop-holds
+    cast-k
     mul-p
     array-copy-out-p
-    cast-t18
-    add-t19
-    add-t14
+    add-put-row
+    add-t15
     cast-t20
     sub-t21
     cast-t22
-    add-put-row
+    add-put-row-2
     put-row-requires
     add-i
     loop-less

@@ -6,12 +6,12 @@ use crate::desks::{next_placed, other_placed, placed_words};
 use crate::outputs;
 use crate::sending::other_sent;
 use crate::tally::Tally;
+use second::bytes::Bytes;
 use second::desk::{place, read, value, Placed, Reading, Ticket, FINE};
 use second::face::Face;
 use second::judge::headings;
 use second::send::{send, Sent};
 use second::writings::Again;
-use std::rc::Rc;
 
 /// What one program says, step by step: the first load, the reason and count of the output's headings, its load and its writing.
 struct Round {
@@ -76,11 +76,11 @@ fn itself(again: &Again) -> Sent {
 }
 
 /// A row's code, group and value.
-type Spoken = (u16, u16, Vec<u8>);
+type Spoken = (u32, u32, Vec<u8>);
 
 /// What the rows of a load say; one that can't be read says nothing, and of a count that no table holds one such row is enough.
-fn spoken(feed: &Rc<[u8]>, placed: &Placed) -> Vec<Option<Spoken>> {
-    let held = placed.table.len() / 10;
+fn spoken(feed: &Bytes, placed: &Placed) -> Vec<Option<Spoken>> {
+    let held = placed.table.len() / 20;
     let tickets = (0..placed.desk.count).take(held + 1).map(|row| Ticket { load: placed.desk.load, row }).collect();
     let rows = read(&Reading { desk: placed.desk, feed: feed.clone(), table: placed.table.clone(), tickets });
     rows.iter().map(|row| row.as_ref().ok().and_then(|row| Some((row.code, row.group, value(feed, row)?.to_vec())))).collect()
@@ -114,7 +114,7 @@ mod tests {
 
     /// An OEM that goes out shorter than it came.
     fn again() -> Again {
-        let feed: Rc<[u8]> = b"junk\nCCSDS_OEM_VERS = 1.0\nCREATION_DATE = 2000-001T00:00:00\n\nORIGINATOR = A\nCOMMENT  x\nMETA_START \n\
+        let feed: Bytes = b"junk\nCCSDS_OEM_VERS = 1.0\nCREATION_DATE = 2000-001T00:00:00\n\nORIGINATOR = A\nCOMMENT  x\nMETA_START \n\
             OBJECT_NAME=B\nOBJECT_ID=C\nCENTER_NAME=D\nREF_FRAME=E\nTIME_SYSTEM=UTC\nSTART_TIME=2000-001T00:00:00\n\
             STOP_TIME=2000-001T00:00:00\nMETA_STOP\n2000-01-01T00:00:00  1 2 3 4 5 6\n"[..]
             .into();
@@ -138,9 +138,9 @@ mod tests {
             |round| round.then.desk.count -= 1,
             |round| round.then.desk.count = u32::MAX,
             |round| round.then.table[0] ^= 1,
-            |round| round.then.table[2] ^= 1,
-            |round| round.then.table[6] += 1,
-            |round| round.then.table[8] -= 1,
+            |round| round.then.table[4] ^= 1,
+            |round| round.then.table[12] += 1,
+            |round| round.then.table[16] -= 1,
             |round| round.sent.reason = 12,
             |round| round.sent.line = 1,
             |round| round.sent.length -= 1,
@@ -159,7 +159,7 @@ mod tests {
     fn line_numbers_may_change_but_not_between_programs() {
         let again = again();
         let (ours, mut told) = (round(&again), round(&again));
-        told.then.table[4] += 1;
+        told.then.table[8] += 1;
         assert!(check_round("one", &again, &told).is_empty());
         assert!(!other_loads(&ours, &told).is_empty());
     }

@@ -26,7 +26,7 @@ pub fn degrees() -> Degrees {
 /// What a message shows by the answer that it got.
 pub fn things(bytes: &[u8], feed: &Feed, message: u64, answer: &Answer) -> Vec<usize> {
     match answer {
-        Answer::Accepted(_) => accepted(&looks(bytes, feed, message)),
+        Answer::Accepted(_) => accepted(&looks(feed, message)),
         Answer::Refused { reason: Reason::Order, line } => refused(bytes, feed, message, *line).into_iter().collect(),
         _ => Vec::new(),
     }
@@ -54,9 +54,8 @@ fn look(line: &[u8]) -> Look {
 }
 
 /// What each line of a message looks like.
-fn looks(bytes: &[u8], feed: &Feed, message: u64) -> Vec<Look> {
-    let places = (1..).map_while(|line| feed.place(message, line));
-    places.map(|place| look(&bytes[place.line_start..place.line_end])).collect()
+fn looks(feed: &Feed, message: u64) -> Vec<Look> {
+    feed.lines(message).map(look).collect()
 }
 
 /// What the segments of an accepted message have; an OPM has none.
@@ -72,7 +71,7 @@ fn accepted(looks: &[Look]) -> Vec<usize> {
 
 /// Which of the two lines stands alone, if the blamed line is blamed for that: with the other one put before it, nothing up to it is out of order.
 fn refused(bytes: &[u8], feed: &Feed, message: u64, line: usize) -> Option<usize> {
-    let looks = looks(bytes, feed, message);
+    let looks = looks(feed, message);
     let (blamed, before) = looks[..line].split_last()?;
     let block = before.rsplit(|look| *look == Look::Start).next()?;
     let has = |look: Look| block.contains(&look);

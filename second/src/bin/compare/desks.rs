@@ -101,9 +101,7 @@ fn other_told(reading: &Reading, heard: &[Heard], told: &[[u32; 6]]) -> Vec<Stri
 /// The numbers of the C struct; on a refusal all but the reason are 0.
 fn as_told(heard: &Heard) -> [u32; 6] {
     match heard {
-        Ok(Row { code, group, line, start, length }) => {
-            [FINE, (*code).into(), (*group).into(), (*line).into(), (*start).into(), (*length).into()]
-        }
+        Ok(Row { code, group, line, start, length }) => [FINE, *code, *group, *line, *start, *length],
         Err(reason) => [*reason, 0, 0, 0, 0, 0],
     }
 }

@@ -1,12 +1,14 @@
-//! What is asked: fixed cases, generated feeds, sessions, writings and texts, each with what is known of the answer beforehand.
+//! What is asked: fixed cases, generated feeds, sessions, writings, texts and tables, each with what is known of the answer beforehand.
 
-use second::cases::{Case, DeskCases, SayCase, SendCase, Want};
+use second::bytes::Bytes;
+use second::cases::{Case, DeskCases, MoveCase, SayCase, SendCase, Want};
 use second::desk::{Heard, Load, Placed, Reading};
 use second::dice::Dice;
-use second::face::{add_judge, add_place, add_read, add_say, add_write, Face};
+use second::face::{Face, Requests};
 use second::harm::{fill, harm_bytes, harm_draft};
 use second::judge::{Feed, Reason, Row, FEED_LIMIT};
-use second::make::{draft, sent, write, Written};
+use second::make::{draft, lengthen, sent, write, Draft, Written};
+use second::movings::{any_tables, Round, Tables, Told};
 use second::sayings::{any_spoken, Spoken};
 use second::send::Sent;
 use second::session::{session, Step};
@@ -16,8 +18,22 @@ use std::rc::Rc;
 /// So many in a hundred generated feeds begin a session on a desk.
 const SESSIONS: usize = 50;
 
-/// The turns of texts begin after those of any feeds, so that both have dice of their own.
+/// The turns of texts begin after those of any feeds, and those of tables after both, so that all have dice of their own.
 const TEXT_TURNS: u64 = 1 << 40;
+const TABLE_TURNS: u64 = 1 << 41;
+
+/// One in so many feeds is long: it has more lines or rows than 16 bits count.
+const LONG_EVERY: usize = 1_000;
+const LONG_AT: usize = 900;
+
+/// One in so many feeds is as long as a feed may be, or one byte shorter. It is judged and no more, since that takes long.
+const GREATEST_EVERY: usize = 4_000;
+const GREATEST_AT: usize = 2_500;
+
+/// So many in a thousand feeds are longer than a feed may be, and so many more have about 65,535 bytes, which was the limit before request (vi).
+const TOO_LONG: usize = 10;
+const OLD_LIMIT: usize = 65_535;
+const ABOUT_OLD_LIMIT: usize = 4;
 
 /// Something to ask, and where it comes from.
 pub struct Item {
@@ -34,11 +50,13 @@ pub enum Ask {
     Write(Writing),
     Again(Again),
     Say(Spoken),
+    Move(Told),
+    Round(Round),
 }
 
 /// Messages of a feed to be judged.
 pub struct Judging {
-    pub feed: Rc<[u8]>,
+    pub feed: Bytes,
     pub messages: Vec<u64>,
     pub known: Known,
 }
@@ -65,22 +83,32 @@ impl Item {
             Ask::Write(writing) => vec![("feed", &writing.sending.feed), ("buffer", &writing.sending.buffer)],
             Ask::Again(again) => vec![("feed", &again.first.feed), ("output", &again.then.feed)],
             Ask::Say(spoken) => vec![("text", &spoken.saying.text)],
+            Ask::Move(told) => vec![("table", &told.moving.from), ("buffer", &told.moving.into)],
+            Ask::Round(round) => {
+                vec![("feed", &round.reading.feed), ("table", &round.widen.moving.from), ("buffer", &round.widen.moving.into)]
+            }
         }
     }
 
-    pub fn add_to(&self, batch: &mut Vec<u8>) {
+    pub fn add_to(&self, requests: &mut Requests) {
         match &self.ask {
-            Ask::Judge(judging) => add_judge(batch, &judging.feed, &judging.messages),
-            Ask::Load(load, _) => add_place(batch, load),
-            Ask::Read(reading, _) => add_read(batch, reading),
-            Ask::Write(writing) => add_write(batch, &writing.sending),
+            Ask::Judge(judging) => requests.add_judge(&judging.feed, &judging.messages),
+            Ask::Load(load, _) => requests.add_place(load),
+            Ask::Read(reading, _) => requests.add_read(reading),
+            Ask::Write(writing) => requests.add_write(&writing.sending),
             Ask::Again(again) => {
-                add_place(batch, &again.first);
-                add_judge(batch, &again.then.feed, &[]);
-                add_place(batch, &again.then);
-                add_write(batch, &again.sending);
+                requests.add_place(&again.first);
+                requests.add_judge(&again.then.feed, &[]);
+                requests.add_place(&again.then);
+                requests.add_write(&again.sending);
             }
-            Ask::Say(spoken) => add_say(batch, &spoken.saying),
+            Ask::Say(spoken) => requests.add_say(&spoken.saying),
+            Ask::Move(told) => requests.add_move(&told.moving),
+            Ask::Round(round) => {
+                requests.add_move(&round.widen.moving);
+                requests.add_move(&round.narrow.moving);
+                requests.add_read(&round.reading);
+            }
         }
     }
 
@@ -98,6 +126,12 @@ impl Item {
                     && face.next_sent(&again.sending).is_ok()
             }
             Ask::Say(_) => face.next_said().is_ok(),
+            Ask::Move(told) => face.next_moved(&told.moving).is_ok(),
+            Ask::Round(round) => {
+                face.next_moved(&round.widen.moving).is_ok()
+                    && face.next_moved(&round.narrow.moving).is_ok()
+                    && face.next_read(&round.reading).is_ok()
+            }
         }
     }
 }
@@ -108,8 +142,12 @@ fn fixed(name: &str, ask: Ask) -> Item {
 
 /// A case's message to be judged and written and, if it goes out, loaded and written again.
 pub fn case_items(case: Case) -> Vec<Item> {
-    let Case { name, feed, headings, message, want } = case;
-    let feed: Rc<[u8]> = feed.into();
+    let Case { name, feed, headings, message, want, only_judged } = case;
+    let judging = Judging { feed: feed.clone(), messages: vec![message], known: Known::Case { headings, want: want.clone() } };
+    let judged = fixed(&name, Ask::Judge(judging));
+    if only_judged {
+        return vec![judged];
+    }
     let letter = Rc::new(Letter::new(&feed, &Feed::new(&feed), message));
     let buffer = vec![255; letter.outgoing.as_ref().map_or(50, |text| text.len() + 1)];
     let refused = match want {
@@ -118,8 +156,7 @@ pub fn case_items(case: Case) -> Vec<Item> {
     };
     let again = letter.again(|size| vec![255; size]).map(|again| fixed(&format!("{name}, loaded again"), Ask::Again(again)));
     let written = fixed(&format!("{name}, written"), Ask::Write(letter.into_buffer(buffer, refused)));
-    let judging = Judging { feed, messages: vec![message], known: Known::Case { headings, want } };
-    [fixed(&name, Ask::Judge(judging)), written].into_iter().chain(again).collect()
+    [judged, written].into_iter().chain(again).collect()
 }
 
 pub fn send_item(case: SendCase) -> Item {
@@ -133,6 +170,11 @@ pub fn say_item(case: SayCase) -> Item {
     fixed(&name, Ask::Say(Spoken { saying, known: Some(want) }))
 }
 
+pub fn move_item(case: MoveCase) -> Item {
+    let MoveCase { name, moving, want } = case;
+    fixed(&name, Ask::Move(Told { moving, known: want }))
+}
+
 pub fn desk_items(cases: DeskCases) -> Vec<Item> {
     let loads = cases.loads.into_iter().map(|case| fixed(&case.name, Ask::Load(case.load, case.want)));
     let reads = cases.reads.into_iter().map(|case| fixed(&case.name, Ask::Read(case.reading, case.want.into_iter().map(Some).collect())));
@@ -142,12 +184,20 @@ pub fn desk_items(cases: DeskCases) -> Vec<Item> {
 /// What one turn of a seed brings: a feed, often a session that begins with it, and writings of its messages.
 pub fn generated_items(seed: u64, turn: usize) -> Vec<Item> {
     let mut dice = Dice::new(seed, turn as u64);
-    let Made { feed, known, texts } = any_feed(&mut dice);
+    let is_greatest = turn % GREATEST_EVERY == GREATEST_AT;
+    let Made { feed, known, texts } = match turn % LONG_EVERY {
+        _ if is_greatest => greatest_feed(&mut dice),
+        LONG_AT => long_feed(&mut dice),
+        _ => any_feed(&mut dice),
+    };
     let messages = asked(&feed, &mut dice);
     let name = format!("generated feed {turn} of seed {seed}");
     let item = |more: String, ask| Item { name: format!("{name}{more}"), generated: true, ask };
     let judging = Ask::Judge(Judging { feed: feed.clone(), messages: messages.clone(), known });
     let mut items = vec![item(String::new(), judging)];
+    if is_greatest {
+        return items;
+    }
     if dice.percent(SESSIONS) {
         let mut feeds = vec![feed.clone()];
         feeds.extend((0..dice.below(3)).map(|_| any_feed(&mut dice).feed));
@@ -169,25 +219,44 @@ pub fn generated_text(seed: u64, turn: usize) -> Item {
     Item { name: format!("generated text {turn} of seed {seed}"), generated: true, ask: Ask::Say(spoken) }
 }
 
+/// The tables that one turn of a seed brings.
+pub fn generated_tables(seed: u64, turn: usize) -> Item {
+    let ask = match any_tables(&mut Dice::new(seed, TABLE_TURNS + turn as u64)) {
+        Tables::One(told) => Ask::Move(told),
+        Tables::Round(round) => Ask::Round(round),
+    };
+    Item { name: format!("generated tables {turn} of seed {seed}"), generated: true, ask }
+}
+
 /// A feed, and what is foretold of it.
 struct Made {
-    feed: Rc<[u8]>,
+    feed: Bytes,
     known: Known,
     /// What its messages go out as, if it is sound.
     texts: Option<Vec<Vec<u8>>>,
 }
 
-/// A feed, sound or damaged, at times filled up to the limit or over it.
-fn any_feed(dice: &mut Dice) -> Made {
+/// A draft, sound or damaged, and whether it is sound.
+fn any_draft(dice: &mut Dice) -> (Draft, bool) {
     let mut sketch = draft(dice);
     let sound = dice.percent(30);
     if !sound {
         let most = 2 + sketch.messages.len();
         (0..dice.between(1, most)).for_each(|_| harm_draft(&mut sketch, dice));
     }
-    if dice.below(1000) < 12 {
-        let wanted =
-            dice.pick(&[FEED_LIMIT - 1, FEED_LIMIT, FEED_LIMIT + 1, FEED_LIMIT + 1, FEED_LIMIT + 2, FEED_LIMIT + 300, 2 * FEED_LIMIT]);
+    (sketch, sound)
+}
+
+/// A feed, sound or damaged, at times filled up to the old limit, or over the new one.
+fn any_feed(dice: &mut Dice) -> Made {
+    let (mut sketch, sound) = any_draft(dice);
+    let place = dice.below(1000);
+    if place < TOO_LONG {
+        let size = FEED_LIMIT + dice.pick(&[1, 1, 1, 2, 245, 300, 65_536]);
+        return padded(write(&sketch, dice).feed, size, dice);
+    }
+    if place < TOO_LONG + ABOUT_OLD_LIMIT {
+        let wanted = OLD_LIMIT + dice.pick(&[0, 1, 2, 3, 301]) - 1;
         let size = write(&sketch, &mut dice.clone()).feed.len();
         fill(&mut sketch, dice, size, wanted);
         let mut feed = write(&sketch, dice).feed;
@@ -195,12 +264,41 @@ fn any_feed(dice: &mut Dice) -> Made {
         feed.resize(wanted, b'\n');
         return Made { feed: feed.into(), known: Known::Nothing, texts: None };
     }
-    let Written { mut feed, rows } = write(&sketch, dice);
+    made(&sketch, sound, dice)
+}
+
+/// What is written of a draft and, if it is sound, foretold.
+fn made(sketch: &Draft, sound: bool, dice: &mut Dice) -> Made {
+    let Written { mut feed, rows } = write(sketch, dice);
     if !sound {
         (0..dice.pick(&[0, 0, 0, 1, 2])).for_each(|_| harm_bytes(&mut feed, dice));
     }
     let texts = sound.then(|| sketch.messages.iter().map(|lines| sent(lines)).collect());
     Made { feed: feed.into(), known: if sound { Known::Rows(rows) } else { Known::Nothing }, texts }
+}
+
+/// A feed that is brought to its size by one byte again and again, mostly a line ending.
+fn padded(front: Vec<u8>, size: usize, dice: &mut Dice) -> Made {
+    let byte = dice.pick(b"\n\n\r x");
+    Made { feed: Bytes::padded(front, size, byte), known: Known::Nothing, texts: None }
+}
+
+/// A feed with a message of more lines or rows than 16 bits count; half of them are damaged.
+fn long_feed(dice: &mut Dice) -> Made {
+    let mut sketch = draft(dice);
+    lengthen(&mut sketch, dice);
+    let sound = dice.percent(50);
+    if !sound {
+        harm_draft(&mut sketch, dice);
+    }
+    made(&sketch, sound, dice)
+}
+
+/// A feed of the greatest length, or one byte less.
+fn greatest_feed(dice: &mut Dice) -> Made {
+    let (sketch, _) = any_draft(dice);
+    let size = FEED_LIMIT - dice.below(2);
+    padded(write(&sketch, dice).feed, size, dice)
 }
 
 /// The message numbers to ask for: all that there are, and at times some that there are not.

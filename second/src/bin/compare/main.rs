@@ -1,11 +1,12 @@
-//! Runs the second judge, desk, writer and sayer beside the product's C face, on fixed cases and on generated feeds and texts, and names every
-//! difference.
+//! Runs the second judge, desk, writer, sayer and mover beside the product's C face, on fixed cases and on generated feeds, texts and tables, and
+//! names every difference.
 
 mod again;
 mod degrees;
 mod desks;
 mod items;
 mod judging;
+mod moving;
 mod outputs;
 mod roundings;
 mod saying;
@@ -13,23 +14,26 @@ mod sending;
 mod shown;
 mod sixty;
 mod tally;
+mod widths;
 mod words;
 
-use items::{case_items, desk_items, generated_items, generated_text, say_item, send_item, Ask, Item};
+use items::{case_items, desk_items, generated_items, generated_tables, generated_text, move_item, say_item, send_item, Ask, Item};
 use second::cases;
-use second::face::Face;
+use second::face::{Face, Requests};
 use std::process::ExitCode;
 use std::time::{Duration, Instant};
-use tally::{Tally, FLOOR_FEEDS, FLOOR_TEXTS};
+use tally::{Tally, FLOOR_FEEDS, FLOOR_TABLES, FLOOR_TEXTS};
 
 const HELP: &str = "\
-compare --self [--seed N] [--feeds N] [--texts N]
-    runs the second program alone: fixed cases against their answers, sound feeds, calls on a desk, writings and texts against what is foretold
-compare [--seed N] [--feeds N] [--texts N] --face COMMAND...
+compare --self [--seed N] [--feeds N] [--texts N] [--tables N]
+    runs the second program alone: fixed cases against their answers, sound feeds, calls on a desk, writings, texts and tables against what is
+    foretold
+compare [--seed N] [--feeds N] [--texts N] [--tables N] --face COMMAND...
     runs it beside the product's C face; everything after --face is the command that starts the face";
 
-/// Calls that go to the face at a time.
+/// Calls that go to the face at a time; fewer, if their requests have more bytes than these.
 const BATCH: usize = 256;
+const BATCH_BYTES: usize = 1 << 24;
 
 /// A run that differs this often has shown enough.
 const ENOUGH: usize = 10;
@@ -38,6 +42,7 @@ struct Options {
     seed: u64,
     feeds: usize,
     texts: usize,
+    tables: usize,
     /// The command that starts the face, or nothing to run the second program alone.
     face: Option<Vec<String>>,
 }
@@ -60,7 +65,7 @@ fn main() -> ExitCode {
 }
 
 fn options(arguments: &[String]) -> Result<Options, String> {
-    let mut options = Options { seed: 1, feeds: FLOOR_FEEDS, texts: FLOOR_TEXTS, face: None };
+    let mut options = Options { seed: 1, feeds: FLOOR_FEEDS, texts: FLOOR_TEXTS, tables: FLOOR_TABLES, face: None };
     let mut alone = false;
     let mut at = 0;
     while at < arguments.len() {
@@ -69,6 +74,7 @@ fn options(arguments: &[String]) -> Result<Options, String> {
             "--seed" => options.seed = number(arguments, &mut at)?,
             "--feeds" => options.feeds = number(arguments, &mut at)? as usize,
             "--texts" => options.texts = number(arguments, &mut at)? as usize,
+            "--tables" => options.tables = number(arguments, &mut at)? as usize,
             "--face" => {
                 options.face = Some(arguments[at + 1..].to_vec());
                 break;
@@ -90,26 +96,30 @@ fn number(arguments: &[String], at: &mut usize) -> Result<u64, String> {
 }
 
 fn run(options: &Options) -> Result<bool, String> {
-    let (fixed, desks, sendings, sayings) = (cases::all(), cases::desks(), cases::sendings(), cases::sayings());
+    let (fixed, desks, sendings, sayings, movings) = (cases::all(), cases::desks(), cases::sendings(), cases::sayings(), cases::movings());
     let mut progress = Progress { last: Instant::now(), feeds: fixed.len() + options.feeds, texts: sayings.len() + options.texts };
     println!("seed {}", options.seed);
     let of_desks = format!("{} of loads, {} of tickets", desks.loads.len(), desks.reads.len());
-    println!("{} fixed cases of judging, {of_desks}, {} of writings, {} of sayings", fixed.len(), sendings.len(), sayings.len());
+    let of_others = format!("{} of writings, {} of sayings, {} of widenings and narrowings", sendings.len(), sayings.len(), movings.len());
+    println!("{} fixed cases of judging, {of_desks}, {of_others}", fixed.len());
     println!("{} generated feeds", options.feeds);
     println!("{} generated texts", options.texts);
+    println!("{} generated turns of tables", options.tables);
     let mut face = options.face.as_ref().map(|command| Face::start(command)).transpose()?;
     let mut tally = Tally::new();
     let judged = fixed.into_iter().flat_map(case_items);
     let others = desk_items(desks).into_iter().chain(sendings.into_iter().map(send_item)).chain(sayings.into_iter().map(say_item));
+    let others = others.chain(movings.into_iter().map(move_item));
     let feeds = (0..options.feeds).flat_map(|turn| generated_items(options.seed, turn));
     let texts = (0..options.texts).map(|turn| generated_text(options.seed, turn));
-    let items = judged.chain(others).chain(feeds).chain(texts);
+    let tables = (0..options.tables).map(|turn| generated_tables(options.seed, turn));
+    let items = judged.chain(others).chain(feeds).chain(texts).chain(tables);
     compare_all(items, options, face.as_mut(), &mut tally, &mut progress)?;
     // A run that has stopped early leaves answers unread, and says so by its differences.
     if let Some(face) = face.as_mut().filter(|_| tally.differences < ENOUGH) {
         face.finish()?;
     }
-    Ok(tally.report(options.feeds, options.texts))
+    Ok(tally.report(options.feeds, options.texts, options.tables))
 }
 
 /// Asks about everything in batches; the face works on one batch while the second program works on the one before.
@@ -121,10 +131,12 @@ fn compare_all(
     progress: &mut Progress,
 ) -> Result<(), String> {
     let mut waiting: Vec<Item> = Vec::new();
+    let mut requests = Requests::default();
     loop {
-        let batch: Vec<Item> = items.by_ref().take(BATCH).collect();
+        let batch = next_batch(&mut items, &mut requests);
+        let bytes = requests.take();
         if let Some(face) = face.as_deref_mut().filter(|_| !batch.is_empty()) {
-            face.send(requests(&batch));
+            face.send(bytes);
         }
         for (at, item) in waiting.iter().enumerate() {
             let rest = || waiting[at..].iter().chain(&batch);
@@ -142,12 +154,25 @@ fn compare_all(
     }
 }
 
+/// The next few items, with their requests.
+fn next_batch(items: &mut impl Iterator<Item = Item>, requests: &mut Requests) -> Vec<Item> {
+    let mut batch = Vec::new();
+    while batch.len() < BATCH && requests.size() < BATCH_BYTES {
+        let Some(item) = items.next() else { break };
+        item.add_to(requests);
+        batch.push(item);
+    }
+    batch
+}
+
 /// Says which call the face does not outlive, by asking a fresh face for each, since answers come many at a time.
 fn blame<'i>(mut items: impl Iterator<Item = &'i Item>, options: &Options, tally: &mut Tally) -> String {
     let command = options.face.clone().unwrap_or_default();
     let survives = |item: &&Item| {
         let Ok(mut face) = Face::start(&command) else { return false };
-        face.send(requests([*item]));
+        let mut requests = Requests::default();
+        item.add_to(&mut requests);
+        face.send(requests.take());
         item.is_answered_by(&mut face)
     };
     tally.differences += 1;
@@ -155,12 +180,6 @@ fn blame<'i>(mut items: impl Iterator<Item = &'i Item>, options: &Options, tally
         Some(item) => format!("the call that it does not outlive: {}\n{}", item.name, tally.keep(item)),
         None => "no single call makes it end".to_string(),
     }
-}
-
-fn requests<'i>(batch: impl IntoIterator<Item = &'i Item>) -> Vec<u8> {
-    let mut bytes = Vec::new();
-    batch.into_iter().for_each(|item| item.add_to(&mut bytes));
-    bytes
 }
 
 /// Tells of a long run every few seconds.
@@ -189,6 +208,8 @@ fn compare(item: &Item, face: Option<&mut Face>, tally: &mut Tally) -> Result<()
         Ask::Write(writing) => sending::compare_sent(writing, item.generated, face, tally),
         Ask::Again(again) => again::compare_again(again, item.generated, face, tally),
         Ask::Say(spoken) => saying::compare_said(spoken, item.generated, face, tally),
+        Ask::Move(told) => moving::compare_moved(told, item.generated, face, tally),
+        Ask::Round(round) => moving::compare_round(round, item.generated, face, tally),
     }?;
     if !facts.is_empty() {
         tally.differences += 1;

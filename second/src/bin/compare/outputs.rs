@@ -103,6 +103,7 @@ fn left_out_of_line(came: &[u8], goes: &[u8]) -> Option<usize> {
 mod tests {
     use super::*;
     use crate::items::{generated_items, Ask};
+    use second::bytes::Bytes;
     use second::judge::Feed;
     use second::send::lay;
     use second::writings::Letter;
@@ -114,7 +115,7 @@ mod tests {
 
     /// What a feed's first message is counted as on a buffer of so many bytes more than needed.
     fn counted(feed: &str, more: isize) -> Vec<usize> {
-        let feed: Rc<[u8]> = feed.as_bytes().into();
+        let feed: Bytes = feed.as_bytes().into();
         let letter = Rc::new(Letter::new(&feed, &Feed::new(&feed), 1));
         let needed = letter.outgoing.as_ref().map_or(0, Vec::len);
         let writing = letter.into_buffer(vec![255; needed.checked_add_signed(more).unwrap()], None);

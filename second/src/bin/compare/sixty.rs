@@ -57,7 +57,7 @@ fn sixty_in(text: &[u8]) -> Option<usize> {
 }
 
 fn value<'f>(bytes: &'f [u8], row: &Row) -> &'f [u8] {
-    &bytes[usize::from(row.start)..][..usize::from(row.length)]
+    &bytes[row.start as usize..][..row.length as usize]
 }
 
 fn shows_it(bytes: &[u8], row: &Row) -> bool {
@@ -155,7 +155,7 @@ mod tests {
     }
 
     /// Every code with an epoch at second 60 in accepted messages of some generated feeds, and how often.
-    fn codes_accepted(seed: u64, feeds: usize, sixties: &mut Sixties) -> BTreeMap<(u16, bool), usize> {
+    fn codes_accepted(seed: u64, feeds: usize, sixties: &mut Sixties) -> BTreeMap<(u32, bool), usize> {
         let mut codes = BTreeMap::new();
         shown::each_generated(seed, feeds, |bytes, feed, messages, answers| {
             sixties.add_feed(bytes, feed, messages, answers, things);

@@ -5,8 +5,9 @@ use crate::items::Item;
 use crate::outputs::{outputs, Outputs};
 use crate::roundings::{roundings, Roundings};
 use crate::sixty::{sixties, Sixties};
+use crate::widths::{widths, Widths};
 use crate::words::{counts_words, rare};
-use second::desk::{reason_name, PLACES, TOO_BIG};
+use second::desk::{reason_name, NO_ROOM, PLACES, TOO_BIG, WIDE};
 use second::judge::Reason;
 use std::path::{Path, PathBuf};
 
@@ -17,17 +18,20 @@ pub const FLOOR_FEEDS: usize = 20_000;
 /// The same for each 120,000 generated texts, the reasons of sayings and everything that they can show.
 pub const FLOOR_TEXTS: usize = 120_000;
 
+/// And for each 15,000 turns of generated tables, the reasons of widenings and narrowings and everything that they can show.
+pub const FLOOR_TABLES: usize = 15_000;
+
 /// How often each answer came to one kind of call; number 0 is the good answer.
 pub struct Counts {
     what: &'static str,
     good: &'static str,
     reasons: Vec<u32>,
-    counts: [usize; 19],
+    counts: [usize; 20],
 }
 
 impl Counts {
     fn new(what: &'static str, good: &'static str, reasons: impl IntoIterator<Item = u32>) -> Counts {
-        Counts { what, good, reasons: reasons.into_iter().collect(), counts: [0; 19] }
+        Counts { what, good, reasons: reasons.into_iter().collect(), counts: [0; 20] }
     }
 
     pub fn add(&mut self, reason: u32) {
@@ -48,10 +52,12 @@ impl Counts {
     }
 }
 
-/// What has been counted so far; the reasons, the second 60, the degrees, the outputs and the roundings are those of generated feeds and texts alone.
+/// What has been counted so far; the reasons, the second 60, the degrees, the outputs, the roundings and the widths are those of generated feeds,
+/// texts and tables alone.
 pub struct Tally {
     pub feeds: usize,
     pub texts: usize,
+    pub tables: usize,
     pub answers: usize,
     pub differences: usize,
     pub judged: Counts,
@@ -59,10 +65,13 @@ pub struct Tally {
     pub tickets: Counts,
     pub writings: Counts,
     pub sayings: Counts,
+    pub widenings: Counts,
+    pub narrowings: Counts,
     pub sixties: Sixties,
     pub degrees: Degrees,
     pub outputs: Outputs,
     pub roundings: Roundings,
+    pub widths: Widths,
     save: PathBuf,
 }
 
@@ -71,6 +80,7 @@ impl Tally {
         Tally {
             feeds: 0,
             texts: 0,
+            tables: 0,
             answers: 0,
             differences: 0,
             judged: Counts::new("generated judgements", "accepted", 1..=11),
@@ -78,23 +88,29 @@ impl Tally {
             tickets: Counts::new("generated tickets", "answered", 14..=16),
             writings: Counts::new("generated writings", "written", 1..=12),
             sayings: Counts::new("generated sayings", "said", [Reason::Value.number(), TOO_BIG, PLACES]),
+            widenings: Counts::new("generated widenings", "widened", [NO_ROOM]),
+            narrowings: Counts::new("generated narrowings", "narrowed", [NO_ROOM, WIDE]),
             sixties: sixties(),
             degrees: degrees(),
             outputs: outputs(),
             roundings: roundings(),
+            widths: widths(),
             save: save_directory(),
         }
     }
 
-    /// Says what was counted; true if there was no difference and everything came often enough among so many generated feeds and texts.
-    pub fn report(&self, feeds: usize, texts: usize) -> bool {
+    /// Says what was counted; true if there was no difference and everything came often enough among so many generated feeds, texts and tables.
+    pub fn report(&self, feeds: usize, texts: usize, tables: usize) -> bool {
         let floor = floor_of(feeds, FLOOR_FEEDS);
         let kinds = [&self.judged, &self.loads, &self.tickets, &self.writings];
         let of_kinds = kinds.iter().flat_map(|counts| counts.rare(floor));
         let of_feeds = self.sixties.rare(floor).into_iter().chain(self.degrees.rare(floor)).chain(self.outputs.rare(floor));
         let floor = floor_of(texts, FLOOR_TEXTS);
         let of_texts = self.sayings.rare(floor).into_iter().chain(self.roundings.rare(floor));
-        let rare: Vec<String> = of_kinds.chain(of_feeds).chain(of_texts).collect();
+        let floor = floor_of(tables, FLOOR_TABLES);
+        let movings = [&self.widenings, &self.narrowings];
+        let of_tables = movings.iter().flat_map(|counts| counts.rare(floor)).chain(self.widths.rare(floor));
+        let rare: Vec<String> = of_kinds.chain(of_feeds).chain(of_texts).chain(of_tables).collect();
         // A run that stopped early has not had the time to bring everything.
         let too_rare = self.differences == 0 && !rare.is_empty();
         if too_rare {
@@ -102,10 +118,12 @@ impl Tally {
         }
         kinds.iter().for_each(|counts| println!("{}", counts.words()));
         println!("{}", self.sayings.words());
+        movings.iter().for_each(|counts| println!("{}", counts.words()));
         println!("{}", self.sixties.words());
         println!("{}", self.degrees.words());
         println!("{}", self.outputs.words());
         println!("{}", self.roundings.words());
+        println!("{}", self.widths.words());
         println!("{} feeds, {} answers, {} differences", self.feeds, self.answers, self.differences);
         self.differences == 0 && !too_rare
     }
@@ -156,13 +174,15 @@ mod tests {
     /// A tally in which everything came just often enough.
     fn whole() -> Tally {
         let mut tally = Tally::new();
-        for counts in [&mut tally.judged, &mut tally.loads, &mut tally.tickets, &mut tally.writings, &mut tally.sayings] {
+        let of_feeds = [&mut tally.judged, &mut tally.loads, &mut tally.tickets, &mut tally.writings];
+        for counts in of_feeds.into_iter().chain([&mut tally.sayings, &mut tally.widenings, &mut tally.narrowings]) {
             counts.reasons.clone().into_iter().for_each(|reason| (0..FLOOR).for_each(|_| counts.add(reason)));
         }
         tally.sixties.counts = [FLOOR; 6];
         tally.degrees.counts = [FLOOR; 4];
         tally.outputs.counts = [FLOOR; 17];
         tally.roundings.counts.fill(FLOOR);
+        tally.widths.counts.fill(FLOOR);
         tally
     }
 
@@ -170,23 +190,32 @@ mod tests {
     fn fails(spoil: impl Fn(&mut Tally)) {
         let mut tally = whole();
         spoil(&mut tally);
-        assert!(!tally.report(FLOOR_FEEDS, 0));
-        assert!(tally.report(FLOOR_FEEDS - 1, FLOOR_TEXTS));
+        assert!(!tally.report(FLOOR_FEEDS, 0, 0));
+        assert!(tally.report(FLOOR_FEEDS - 1, FLOOR_TEXTS, FLOOR_TABLES));
     }
 
     /// The same for the floor's texts.
     fn fails_by_texts(spoil: impl Fn(&mut Tally)) {
         let mut tally = whole();
         spoil(&mut tally);
-        assert!(!tally.report(0, FLOOR_TEXTS));
-        assert!(tally.report(FLOOR_FEEDS, FLOOR_TEXTS - 1));
+        assert!(!tally.report(0, FLOOR_TEXTS, 0));
+        assert!(tally.report(FLOOR_FEEDS, FLOOR_TEXTS - 1, FLOOR_TABLES));
+    }
+
+    /// And for the floor's tables.
+    fn fails_by_tables(spoil: impl Fn(&mut Tally)) {
+        let mut tally = whole();
+        spoil(&mut tally);
+        assert!(!tally.report(0, 0, FLOOR_TABLES));
+        assert!(tally.report(FLOOR_FEEDS, FLOOR_TEXTS, FLOOR_TABLES - 1));
     }
 
     #[test]
     fn a_run_that_has_everything_stands() {
-        assert!(whole().report(FLOOR_FEEDS, FLOOR_TEXTS));
-        assert!(!whole().report(2 * FLOOR_FEEDS, FLOOR_TEXTS));
-        assert!(!whole().report(FLOOR_FEEDS, 2 * FLOOR_TEXTS));
+        assert!(whole().report(FLOOR_FEEDS, FLOOR_TEXTS, FLOOR_TABLES));
+        assert!(!whole().report(2 * FLOOR_FEEDS, FLOOR_TEXTS, FLOOR_TABLES));
+        assert!(!whole().report(FLOOR_FEEDS, 2 * FLOOR_TEXTS, FLOOR_TABLES));
+        assert!(!whole().report(FLOOR_FEEDS, FLOOR_TEXTS, 2 * FLOOR_TABLES));
     }
 
     #[test]
@@ -212,6 +241,17 @@ mod tests {
     #[test]
     fn a_run_that_lacks_a_reason_of_sayings_fails() {
         [8, 17, 18].into_iter().for_each(|reason: usize| fails_by_texts(|tally| tally.sayings.counts[reason] -= 1));
+    }
+
+    #[test]
+    fn a_run_that_lacks_a_reason_of_movings_fails() {
+        fails_by_tables(|tally| tally.widenings.counts[12] -= 1);
+        [12, 19].into_iter().for_each(|reason: usize| fails_by_tables(|tally| tally.narrowings.counts[reason] -= 1));
+    }
+
+    #[test]
+    fn a_run_that_lacks_something_that_movings_show_fails() {
+        (0..whole().widths.counts.len()).for_each(|at| fails_by_tables(|tally| tally.widths.counts[at] -= 1));
     }
 
     #[test]

@@ -18,6 +18,9 @@ pub fn reason_words(reason: u32) -> String {
 
 /// How many bytes of what was lent differ, and the first of them; the lengths are equal, since both had it lent.
 pub fn other_bytes(what: &str, one: &str, left: &[u8], other: &str, right: &[u8]) -> Vec<String> {
+    if left == right {
+        return Vec::new();
+    }
     let differ: Vec<usize> = (0..left.len()).filter(|at| left[*at] != right[*at]).collect();
     let Some(at) = differ.first() else { return Vec::new() };
     vec![

@@ -1,0 +1,4 @@
+pub mod Copies
+pub mod Entries
+pub mod Hearing
+pub mod Tables
