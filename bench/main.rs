@@ -1,6 +1,7 @@
 //! Times as ratios: the product's archive against the second program, against a bare scan for line ends and, where it is built with `--cfg before`,
-//! against the archive of an earlier landing, interleaved in one run; and its writing against its placing. `bench count WAY FEED TIMES` runs one of them
-//! alone, for a counter of instructions.
+//! against the archive of an earlier landing, interleaved in one run; its writing against its placing; and how judging, placing and reading grow up to the
+//! feed limit. `bench count WAY FEED TIMES` runs one of them alone, for a counter of instructions; `bench memory LENGTH` judges, places and reads one feed and
+//! says what memory that took.
 #[path = "../second/src/judge/mod.rs"]
 #[allow(dead_code, unused_imports)]
 mod judge;
@@ -25,6 +26,16 @@ struct Placed {
 }
 
 #[repr(C)]
+struct Row {
+    reason: u32,
+    code: u32,
+    group: u32,
+    line: u32,
+    start: u32,
+    length: u32,
+}
+
+#[repr(C)]
 struct Written {
     reason: u32,
     line: u32,
@@ -36,6 +47,7 @@ type Judge = unsafe extern "C" fn(*const u8, usize, usize) -> Judged;
 extern "C" {
     fn odm_judge(feed: *const u8, length: usize, message: usize) -> Judged;
     fn odm_place(load: u32, count: u32, feed: *const u8, length: usize, message: usize, table: *mut u8, room: usize) -> Placed;
+    fn odm_read(load: u32, count: u32, ticket_load: u32, ticket_row: u32, feed: *const u8, length: usize, table: *const u8, room: usize) -> Row;
     fn odm_write(feed: *const u8, length: usize, message: usize, buffer: *mut u8, room: usize) -> Written;
     #[cfg(before)]
     fn before_odm_judge(feed: *const u8, length: usize, message: usize) -> Judged;
@@ -83,8 +95,35 @@ fn scan(feed: &[u8], messages: &[usize]) -> u64 {
 }
 
 thread_local! {
-    /// What a table or a buffer is lent from: room for the rows of any feed, and so for its text.
-    static LENT: RefCell<Vec<u8>> = RefCell::new(vec![0; 10 * 65_535]);
+    /// What a table or a buffer is lent from: room for the rows of the feed at hand, and so for its text.
+    static LENT: RefCell<Vec<u8>> = const { RefCell::new(Vec::new()) };
+}
+
+/// A row's bytes in a table.
+const ROW: usize = 20;
+
+/// The table that a feed's longest message needs, with its first message in it.
+fn lend(feed: &[u8], messages: &[usize]) {
+    let rows = messages.iter().map(|&message| unsafe { odm_judge(feed.as_ptr(), feed.len(), message) }.rows as usize).max().unwrap_or(0);
+    LENT.with_borrow_mut(|table| {
+        table.clear();
+        table.shrink_to_fit();
+        table.resize((ROW * rows).max(feed.len()), 0);
+        unsafe { odm_place(0, 0, feed.as_ptr(), feed.len(), 1, table.as_mut_ptr(), table.len()) };
+    });
+}
+
+/// Every row of the first message that was placed.
+fn read(feed: &[u8], messages: &[usize]) -> u64 {
+    let rows = unsafe { odm_judge(feed.as_ptr(), feed.len(), messages[0]) }.rows;
+    read_rows(feed, rows)
+}
+
+fn read_rows(feed: &[u8], rows: u32) -> u64 {
+    LENT.with_borrow(|table| {
+        let heard = (0..rows).map(|row| unsafe { odm_read(1, rows, 1, row, feed.as_ptr(), feed.len(), table.as_ptr(), table.len()) });
+        heard.map(|row| right(row.reason, row.code ^ row.group ^ row.line ^ row.start ^ row.length)).fold(0, u64::wrapping_add)
+    })
 }
 
 fn place(feed: &[u8], messages: &[usize]) -> u64 {
@@ -119,7 +158,7 @@ const WAYS: &[(&str, Way)] = &[
 ];
 
 /// Writing first, and the placing that it is held against.
-const SENDING: &[(&str, Way)] = &[("write", write), ("place", place)];
+const SENDING: &[(&str, Way)] = &[("write", write), ("place", place), ("read", read)];
 
 fn head() -> String {
     "CCSDS_OEM_VERS = 1.0\nCREATION_DATE = 2000-01-01T00:00:00\nORIGINATOR = BENCH\nMETA_START\nOBJECT_NAME = A\nOBJECT_ID = B\nCENTER_NAME = EARTH\nREF_FRAME = ICRF\nTIME_SYSTEM = UTC\nSTART_TIME = 2000-001T00:00:00\nSTOP_TIME = 2000-366T00:00:00\nMETA_STOP\n".to_string()
@@ -206,22 +245,71 @@ fn measure(feed: &[u8], messages: &[usize], ways: &[Way], rounds: usize, calls: 
     times.into_iter().map(median).collect()
 }
 
-/// Seconds a byte of each feed, the median of rounds in which each feed takes its turn, so that a machine that slows down slows all alike.
-fn growth(feeds: &[Vec<u8>], rounds: usize) -> Vec<f64> {
-    let mut times = vec![Vec::new(); feeds.len()];
+/// Judging, placing and reading each of the rows, and the two that judging is held against.
+const GROWING: [&str; 5] = ["judging", "placing", "reading", "second", "scan"];
+
+/// Seconds a byte of each feed in each of these ways, medians of rounds in which each feed takes its turn, so that a machine that slows down slows all alike.
+fn growth(feeds: &[Vec<u8>], rounds: usize) -> Vec<Vec<f64>> {
+    let mut times = vec![vec![Vec::new(); GROWING.len()]; feeds.len()];
     for _ in 0..rounds {
-        for (at, feed) in feeds.iter().enumerate() {
+        for (feed, times) in feeds.iter().zip(&mut times) {
             let calls = 1 + 500_000 / feed.len();
-            times[at].push(measure(feed, &[1], &[product], 1, calls)[0] / feed.len() as f64);
+            lend(feed, &[1]);
+            let rows = unsafe { odm_judge(feed.as_ptr(), feed.len(), 1) }.rows;
+            let mut took = measure(feed, &[1], &[product, place, second, scan], 1, calls);
+            let begun = Instant::now();
+            (0..calls).for_each(|_| {
+                black_box(read_rows(black_box(feed), rows));
+            });
+            took.insert(2, begun.elapsed().as_secs_f64() / calls as f64);
+            times.iter_mut().zip(took).for_each(|(times, took)| times.push(took / feed.len() as f64));
         }
     }
-    times.into_iter().map(median).collect()
+    times.into_iter().map(|ways| ways.into_iter().map(median).collect()).collect()
+}
+
+/// From 4 KB to the feed limit, doubling; every time a byte is held against that at 64 KB.
+fn say_growth() {
+    let feeds: Vec<Vec<u8>> = (0..13).map(|doubling| ephemeris(((4 * 1024) << doubling).min(judge::FEED_LIMIT))).collect();
+    let times = growth(&feeds, 7);
+    println!("growth from 4 KB to 16 MB, doubling, the time a byte against that at 64 KB; then placing and reading against judging, and judging against the others:");
+    for (feed, time) in feeds.iter().zip(&times) {
+        let grown = |way: usize| time[way] / times[4][way];
+        println!(
+            "  {} bytes: judging {:.2}, placing {:.2}, reading {:.2}; placing {:.2}, reading {:.2}; against the second program {:.2}, a bare scan {:.1}",
+            feed.len(),
+            grown(0),
+            grown(1),
+            grown(2),
+            time[1] / time[0],
+            time[2] / time[0],
+            time[0] / time[3],
+            time[0] / time[4]
+        );
+    }
+}
+
+/// The most memory that this process has had, in KB.
+fn peak() -> u64 {
+    let status = std::fs::read_to_string("/proc/self/status").unwrap_or_default();
+    let line = status.lines().find_map(|line| line.strip_prefix("VmHWM:")).unwrap_or("0 kB");
+    line.trim().trim_end_matches(" kB").parse().unwrap_or(0)
+}
+
+/// One feed judged, placed and read: what is lent, and the process's peak.
+fn memory(length: usize) {
+    let feed = ephemeris(length);
+    lend(&feed, &[1]);
+    black_box(read(&feed, &[1]));
+    let table = LENT.with_borrow(Vec::len);
+    println!("{} KB of feed and {} KB of table lent; the process's peak is {} KB", feed.len() / 1024, table / 1024, peak());
 }
 
 fn times() {
     let ways: Vec<Way> = WAYS.iter().map(|way| way.1).collect();
     println!("medians of interleaved rounds; a ratio above 1 means that the product is slower");
     for feed in feeds() {
+        lend(&feed.bytes, &feed.messages);
         let times = measure(&feed.bytes, &feed.messages, &ways, 41, feed.calls);
         println!("{}: {:.1} microseconds", feed.name, times[0] * 1e6);
         for (way, time) in WAYS.iter().zip(&times).skip(1) {
@@ -234,21 +322,18 @@ fn times() {
         }
     }
     let feed = &feeds()[0];
+    lend(&feed.bytes, &feed.messages);
     let times = measure(&feed.bytes, &feed.messages, &SENDING.iter().map(|way| way.1).collect::<Vec<Way>>(), 41, feed.calls);
     println!("writing a {}: {:.1} microseconds", feed.name, times[0] * 1e6);
     println!("  against placing it: {:.2}", times[0] / times[1]);
-    println!("growth from 4 KB, per byte, doubling:");
-    let feeds: Vec<Vec<u8>> = (0..5).map(|doubling| ephemeris(((4 * 1024) << doubling).min(65_535))).collect();
-    let times = growth(&feeds, 61);
-    for (feed, time) in feeds.iter().zip(&times) {
-        println!("  {} bytes: {:.2}", feed.len(), time / times[0]);
-    }
+    say_growth();
 }
 
 /// One way on one feed, so many times over: what a counter of instructions is run on.
 fn count(way: &str, feed: usize, calls: usize) {
     let way = WAYS.iter().chain(SENDING).find(|known| known.0 == way).expect("no such way").1;
     let feed = feeds().swap_remove(feed);
+    lend(&feed.bytes, &feed.messages);
     for _ in 0..calls {
         black_box(way(black_box(&feed.bytes), &feed.messages));
     }
@@ -260,6 +345,7 @@ fn main() {
     match words.as_slice() {
         [] => times(),
         [word, way, feed, calls] if word == "count" => count(way, feed.parse().unwrap(), calls.parse().unwrap()),
-        _ => panic!("bench, or bench count WAY FEED TIMES"),
+        [word, length] if word == "memory" => memory(length.parse().unwrap()),
+        _ => panic!("bench, bench count WAY FEED TIMES or bench memory LENGTH"),
     }
 }

@@ -37,6 +37,7 @@ else
   rustc "${flags[@]}" bench/main.rs -o build/bench
 fi
 $RUN build/bench
+for length in 4096 16777215; do $RUN build/bench memory $length; done
 
 # Instructions: what three runs over a feed take more than one does, so that the feed's making does not count. They don't hang on the machine's speed.
 if [ -z "$RUN" ] && ! command -v valgrind >/dev/null; then
