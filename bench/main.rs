@@ -245,12 +245,12 @@ fn measure(feed: &[u8], messages: &[usize], ways: &[Way], rounds: usize, calls: 
     times.into_iter().map(median).collect()
 }
 
-/// Judging, placing and reading each of the rows, and the two that judging is held against.
-const GROWING: [&str; 5] = ["judging", "placing", "reading", "second", "scan"];
+/// How many ways grow: judging, placing, reading every row, and the second program and the scan that judging is held against.
+const GROWING: usize = 5;
 
 /// Seconds a byte of each feed in each of these ways, medians of rounds in which each feed takes its turn, so that a machine that slows down slows all alike.
 fn growth(feeds: &[Vec<u8>], rounds: usize) -> Vec<Vec<f64>> {
-    let mut times = vec![vec![Vec::new(); GROWING.len()]; feeds.len()];
+    let mut times = vec![vec![Vec::new(); GROWING]; feeds.len()];
     for _ in 0..rounds {
         for (feed, times) in feeds.iter().zip(&mut times) {
             let calls = 1 + 500_000 / feed.len();

@@ -103,7 +103,7 @@ unfolding putRows rowsFrom
 fill-end st g line n t ls e = rw e
 
 -- a message that is accepted has as many rows as it was accepted with
-pub accepted : (ls : List Line) (st : State) (g line n total : ℕ) → judgeTexts st line n (texts ls) ≡ Accepted total
+accepted : (ls : List Line) (st : State) (g line n total : ℕ) → judgeTexts st line n (texts ls) ≡ Accepted total
     → n + length (rowsFrom st g line ls) ≡ total
 unfolding judgeTexts rowsFrom endOf
 accepted [] st g line n total = go (nextOf (st .form) (st .last) .end)

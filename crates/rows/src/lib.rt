@@ -9,7 +9,7 @@ use step::State;
 use step::Step;
 use tables::ROW_BYTES;
 ghost use mathlib.Core.Path.{_≡_};
-ghost use Prim.Native.Nat.{_+_, _*_, _<_, _≤_};
+ghost use Prim.Native.Nat.{_<_};
 ghost use lib.ListN.{length, take, drop};
 ghost use mathlib.Core.Bool.{true};
 ghost use Rattle.lines.specs.Feed.{linesAt};

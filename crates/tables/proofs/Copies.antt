@@ -1,15 +1,15 @@
 -- Laws of a table's entries put into another table, over both widths, of the search for an entry above 65,535, and of the answers.
 -- Assumes nothing.
-use mathlib.Core.Path.{_≡_, _∙_}
+use mathlib.Core.Path.{_≡_, refl, _∙_}
 use mathlib.Core.List.{List, _++_, append-assoc}
 use mathlib.Core.Bool.{true, false}
 use Prim.Native.Nat.{ℕ, zero, suc, _+_, _-_, _*_, _≤_, _<_}
 use native.Mathlib.Numerals.{add-one}
-use native.Mathlib.Nat.{mul-zero, mul-suc}
+use native.Mathlib.Nat.{mul-zero, mul-suc, mul-le-mul-left, mul-div-le}
 use native.Mathlib.Omega.{arith}
 use lib.Dec.{eqb}
 use lib.ListN.{length, drop, length-append, length-drop}
-use lib.Seq.{sets, sets-eq, drop-drop, take-append-seam, drop-append-add}
+use lib.Seq.{sets, sets-eq, length-sets, drop-drop, take-append-seam, drop-append-add}
 use borrow.Author.Tests.{lt-ltb, le-ltb}
 use Rattle.reasons.specs.declared.Reason.the-variants as Reasons
 use Rattle.tables.specs.Table.{hostWidth, recordedWidth, entryBytes, entryAt}
@@ -22,28 +22,50 @@ sets-behind : (a s e : List ℕ) → length e ≤ length s → sets (a ++ s) (le
 sets-behind a s e h =
     sets-eq e (a ++ s) (length a) (simp length-append (omega arith)) ∙ rw (take-append-seam a s, drop-append-add a s (length e), append-assoc)
 
-module _ (v w : ℕ) (t : List ℕ) where
-  pub rewritten-length : (k : ℕ) → length (rewritten v w t k) ≡ w * k
-  unfolding rewritten
-  rewritten-length zero = omega arith
-  rewritten-length (suc k) = simp (length-append, bytes-length) (rw (rewritten-length k, mul-suc w k))
+pub rewritten-length : (v w : ℕ) (t : List ℕ) (k : ℕ) → length (rewritten v w t k) ≡ w * k
+unfolding rewritten
+rewritten-length v w t zero = omega arith
+rewritten-length v w t (suc k) = simp (length-append, bytes-length) (rw (rewritten-length v w t k, mul-suc w k))
 
-  -- none put yet, and one more put where the first i of them are
-  pub copy-none : (u₀ : List ℕ) → u₀ ≡ rewritten v w t 0 ++ drop (w * 0) u₀
-  unfolding rewritten
-  copy-none u₀ = rw (mul-zero w)
+-- the first i entries of t are in u, which else is as u₀ was
+pub record Copied (v w : ℕ) (t u₀ u : List ℕ) (i : ℕ) : Type 0 where
+  pub some : i ≤ entriesIn v t
+  pub made : u ≡ rewritten v w t i ++ drop (w * i) u₀
+  pub size : length u ≡ length u₀
 
-  pub copy-turn : (u₀ : List ℕ) (i : ℕ) → w * (i + 1) ≤ length u₀
-      → sets (rewritten v w t i ++ drop (w * i) u₀) (w * i) (entryBytes w (entryAt v t i)) ≡ rewritten v w t (i + 1) ++ drop (w * (i + 1)) u₀
+module _ (v w : ℕ) (t u₀ : List ℕ) where
+  pub copy-none : Copied v w t u₀ u₀ 0
   unfolding rewritten
-  copy-turn u₀ i h =
-      let a = rewritten v w t i in
-      let e = entryBytes w (entryAt v t i) in
-      let p : w * (i + 1) ≡ w * i + w = rw (add-one i) (mul-suc w i) in
-      let q = bytes-length w (entryAt v t i) in
-      let r = rewritten-length i in
-      rw (add-one i, mul-suc w i, ← r)
-      (sets-behind a (drop (length a) u₀) e (simp length-drop (omega arith)) ∙ rw (drop-drop (length e) (length a) u₀, q, append-assoc))
+  copy-none = record { some = omega arith; made = rw (mul-zero w); size = refl }
+
+  pub copy-all : (u : List ℕ) (i : ℕ) → Copied v w t u₀ u i → entriesIn v t ≤ i → u ≡ copied v w t u₀
+  copy-all u i c h = let e : i ≡ entriesIn v t = omega arith in rw e at (c .made)
+
+  module _ (e : entriesIn v t ≡ entriesIn w u₀) (u : List ℕ) (i : ℕ) (c : Copied v w t u₀ u i) (h : i < entriesIn v t) where
+    -- the next entry lies in both tables
+    pub copy-fits : (v * (i + 1) ≤ length t) × (w * (i + 1) ≤ length u)
+    copy-fits = (
+      omega (arith, mul-le-mul-left {m = i + 1} {n = entriesIn v t} v (omega arith), mul-div-le (length t) v),
+      omega (arith, mul-le-mul-left {m = i + 1} {n = entriesIn w u₀} w (omega arith), mul-div-le (length u₀) w),
+    )
+
+    pub copy-next : (n : ℕ) → n ≡ entryAt v t i → (x : List ℕ) → x ≡ sets u (w * i) (entryBytes w n) → Copied v w t u₀ x (i + 1)
+    unfolding rewritten
+    copy-next n q x m =
+        let a = rewritten v w t i in
+        let b = entryBytes w (entryAt v t i) in
+        let p : w * (i + 1) ≡ w * i + w = rw (add-one i) (mul-suc w i) in
+        let l = bytes-length w (entryAt v t i) in
+        let r = rewritten-length v w t i in
+        let f = copy-fits .1 in
+        record {
+          some = omega arith;
+          made =
+              m
+              ∙ rw (q, c .made, add-one i, mul-suc w i, ← r)
+              (sets-behind a (drop (length a) u₀) b (simp length-drop (omega arith)) ∙ rw (drop-drop (length b) (length a) u₀, l, append-assoc));
+          size = rw (m, length-sets) (c .size);
+        }
 
 -- ---- an entry above 65,535, looked for from the i-th of k entries on
 

@@ -17,7 +17,7 @@ use Rattle.tables.specs.Table.{hostWidth, hostRow, entryBytes, numberAt,
 use Rattle.tables.proofs.Entries.{reach, bytes-length, number-past, number-back}
 
 -- a row takes five entries' bytes
-pub row-length : (r : Row) → length (rowBytes r) ≡ hostRow
+row-length : (r : Row) → length (rowBytes r) ≡ hostRow
 row-length r = simp (length-append, bytes-length)
 
 pub table-length : (rs : List Row) → length (tableBytes rs) ≡ hostRow * length rs
@@ -26,7 +26,7 @@ table-length [] = refl
 table-length (r ∷ rs) = omega (arith, length-append (rowBytes r) (tableBytes rs), row-length r, table-length rs)
 
 -- past some whole rows the others have the places that they have without those
-pub row-past : (xs ys : List ℕ) (m i : ℕ) → length xs ≡ hostRow * m → rowAt hostWidth (xs ++ ys) (m + i) ≡ rowAt hostWidth ys i
+row-past : (xs ys : List ℕ) (m i : ℕ) → length xs ≡ hostRow * m → rowAt hostWidth (xs ++ ys) (m + i) ≡ rowAt hostWidth ys i
 unfolding rowAt
 row-past xs ys m i e =
     rw (at (5 * (m + i)) (5 * i) (omega arith), at (5 * (m + i) + 1) (5 * i + 1) (omega arith), at (5 * (m + i) + 2) (5 * i + 2) (omega arith), at (5 * (m + i) + 3) (5 * i + 3) (omega arith), at (5 * (m + i) + 4) (5 * i + 4) (omega arith))
@@ -46,7 +46,7 @@ unfoldable pub Small : List Row → Type 0
 Small [] = Unit
 Small (r ∷ rs) = Fit r × Small rs
 
-pub row-first : (r : Row) (u : List ℕ) → Fit r → rowAt hostWidth (rowBytes r ++ u) 0 ≡ r
+row-first : (r : Row) (u : List ℕ) → Fit r → rowAt hostWidth (rowBytes r ++ u) 0 ≡ r
 unfolding rowAt numberAt entryBytes
 row-first r u s =
     let back = number-back hostWidth in
@@ -93,7 +93,7 @@ module _ (n : ℕ) (r : Row) (t : List ℕ) where
   put-in h = rw (le-ltb _ _ h, putRow)
 
   -- the table is as long as it was
-  pub put-length : length (putRow n r t) ≡ length t
+  put-length : length (putRow n r t) ≡ length t
   unfolding putRow
   put-length = go (ltb (length t) (hostRow * (n + 1)))
     where
@@ -101,7 +101,7 @@ module _ (n : ℕ) (r : Row) (t : List ℕ) where
       go true = refl
       go false = length-sets t (hostRow * n) (rowBytes r)
 
-pub put-sets : (rs : List Row) (n : ℕ) (t : List ℕ) → hostRow * (n + length rs) ≤ length t → putRows n rs t ≡ sets t (hostRow * n) (tableBytes rs)
+put-sets : (rs : List Row) (n : ℕ) (t : List ℕ) → hostRow * (n + length rs) ≤ length t → putRows n rs t ≡ sets t (hostRow * n) (tableBytes rs)
 unfolding putRows tableBytes
 put-sets [] n t h = refl
 put-sets (r ∷ rs) n t h =

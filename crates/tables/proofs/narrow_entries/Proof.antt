@@ -1,60 +1,44 @@
 -- `tables::narrow_entries` meets its contract. The invariant: the entries up to here are put, and the bytes behind them are as they came.
 -- Assumes nothing.
-use Prim.Native.Nat.{_-_, _*_, _/_, _≤_}
-use mathlib.Core.Path.{_≡_, refl, _∙_}
-use mathlib.Core.List.{_++_}
-use native.Mathlib.Nat.{mul-div-le}
+use Prim.Native.Nat.{_+_, _-_, _*_, _≤_}
+use mathlib.Core.Path.{sym}
 use native.Mathlib.Omega.{arith}
-use lib.ListN.{length, drop}
+use lib.ListN.{length}
 use Rattle.tables.specs.Table.{hostWidth, recordedWidth}
-use Rattle.tables.specs.Widths.{rewritten}
-use Rattle.tables.proofs.Copies.{copy-none, copy-turn}
+use Rattle.tables.proofs.Copies.{Copied, copy-none, copy-all, copy-fits, copy-next}
 use Rattle.tables.proofs.narrow_entries.Statement.{statement}
 use Rattle.tables.proofs.narrow_entries.Tie as tie
 
 abbrev Inv-loop : tie.InvT-loop
-Inv-loop wide narrow₀ count i₀ narrow i = (i ≤ count) × (narrow ≡ rewritten hostWidth recordedWidth wide i ++ drop (recordedWidth * i) narrow₀) × (length narrow ≡ length narrow₀)
+Inv-loop wide narrow₀ count i₀ narrow i = Copied hostWidth recordedWidth wide narrow₀ narrow i
 
 abbrev μ-loop : tie.MeasureT-loop
 μ-loop wide narrow₀ count i₀ narrow i = count - i
 
--- both tables have the bytes of so many entries
-room : (c : tie.At-loop Inv-loop μ-loop) → let a = c .before .before .before .args in let k = length (a .wide .now) / 4 in
-    (2 * k ≤ length (a .narrow .now)) × (4 * k ≤ length (a .wide .now))
-room c =
-    let s = c .before .before .before in
-    (rw (← s .pre) (mul-div-le (length (s .args .narrow .now)) 2), mul-div-le _ 4)
-
-loop-holds : tie.Need-loop-holds Inv-loop μ-loop
-loop-holds c = (omega arith, copy-none _ _ _ _, refl)
-
-get-entry-requires : tie.Need-get-entry-requires Inv-loop μ-loop
-get-entry-requires c κs = omega (arith, room (c .before .before))
-
-put-narrow-requires : tie.Need-put-narrow-requires Inv-loop μ-loop
-put-narrow-requires c κs = let l = c .before .before .before in omega (arith, room l, l .loop .inv .2)
-
-add-i : tie.Need-add-i Inv-loop μ-loop
-add-i c = omega (arith, room (c .before .before .before .before .before .before))
-
-loop-less : tie.Need-loop-less Inv-loop μ-loop
-loop-less c = omega arith
+fits : (c : tie.In-loop Inv-loop μ-loop) → let l = c .before in
+    (hostWidth * (l .loop .i + 1) ≤ length (l .before .before .before .args .wide .now)) × (recordedWidth * (l .loop .i + 1) ≤ length (l .loop .narrow))
+fits c =
+    let s = c .before .before .before .before in
+    copy-fits _ _ _ _ (sym (s .pre)) _ _ (c .before .loop .inv) (c .loop-test .taken)
 
 loop-again : tie.Need-loop-again Inv-loop μ-loop
 loop-again c =
     let p = c .before .before in
-    let l = p .before .before .before .before in
-    (omega arith, p .put-narrow .ensures ∙ rw (p .before .get-entry .ensures, l .loop .inv .1) (copy-turn _ _ _ _ _ (omega (arith, room l))), p .put-narrow .kept .0 ∙ l .loop .inv .2)
-
-same-length : tie.Need-same-length Inv-loop μ-loop
-same-length c = omega arith
-
-returns : tie.Need-returns Inv-loop μ-loop
-returns c =
-    let l = c .before .loop in
-    let k : l .i ≡ length (c .before .before .before .before .args .wide .now) / 4 = omega arith in
-    rw k at (l .inv .1)
+    let t = p .before .before .before in
+    let s = t .before .before .before .before in
+    copy-next _ _ _ _ (sym (s .pre)) _ _ (t .before .loop .inv) (t .loop-test .taken) _ (p .before .get-entry .ensures) _ (p .put-narrow .ensures)
 
 pub narrow-entries-spec : {M : Type 1} → statement M
 narrow-entries-spec =
-    tie.close (tie.spec Inv-loop μ-loop loop-holds get-entry-requires put-narrow-requires add-i loop-less loop-again same-length returns)
+    tie.close
+    (tie.spec
+    Inv-loop
+    μ-loop
+    (λ c. copy-none _ _ _ _)
+    (λ c κs. omega (arith, fits (c .before)))
+    (λ c κs. omega (arith, fits (c .before .before)))
+    (λ c. omega (arith, fits (c .before .before .before .before .before)))
+    (λ c. omega arith)
+    loop-again
+    (λ c. c .before .loop .inv .size)
+    (λ c. copy-all _ _ _ _ _ _ (c .before .loop .inv) (c .loop-test .left)))
