@@ -14,4 +14,10 @@ row 16: about 65035 tenths
 the ticket is gone
 message 1 in plain form has 843 bytes
 SAYS
+head -n 11 examples/figure-3-1.opm >build/readme.opm # cut off before EPOCH
+$RUN build/readme build/readme.opm >build/readme.out
+diff - build/readme.out <<'SAYS'
+message 1 refused, reason 11, line 12, 0 bytes at 256
+code 9 could have stood there
+SAYS
 echo "the example in README.md says what it should"

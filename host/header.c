@@ -168,6 +168,36 @@ static void check_rounding(void) {
     same("place of its units", offsetof(odm_rounded, units), 8);
 }
 
+/* Explains a message of `two`, or of it cut short: the numbers before the codes, then the codes. */
+static void same_explained(size_t length, size_t message, const uint32_t want[10]) {
+    odm_explained got = odm_explain((const uint8_t *)two, length, message);
+    same("reason of the explanation", got.reason, want[0]);
+    same("rows of the explanation", got.rows, want[1]);
+    same("line of the explanation", got.line, want[2]);
+    same("start of the explanation", got.start, want[3]);
+    same("length of the explanation", got.length, want[4]);
+    same("count of the explanation", got.count, want[5]);
+    for (size_t at = 0; at < 4; at++) same("code of the explanation", got.codes[at], want[6 + at]);
+}
+
+static void check_explaining(void) {
+    uint32_t date = (uint32_t)(strstr(two, "2000-13-01") - two), stop = (uint32_t)(strstr(two, "STOP_TIME") - two);
+    const uint32_t right[10] = {ODM_OK, 21, 0, 0, 0, 0, 0, 0, 0, 0}, wrong[10] = {ODM_VALUE, 0, 2, date, 19, 0, 0, 0, 0, 0},
+                   none[10] = {ODM_NO_MESSAGE, 0, 0, 0, 0, 0, 0, 0, 0, 0}, cut[10] = {ODM_SHORT, 0, 14, stop, 0, 3, 39, 40, 41, 0};
+    same_explained(strlen(two), 1, right);
+    same_explained(strlen(two), 2, wrong);
+    same_explained(strlen(two), 3, none);
+    same_explained(stop, 1, cut);
+    same("reason for explaining an empty feed", odm_explain(NULL, 0, 1).reason, ODM_NO_MESSAGE);
+    same("size of odm_explained", sizeof(odm_explained), 40);
+    same("place of its rows", offsetof(odm_explained, rows), 4);
+    same("place of its line", offsetof(odm_explained, line), 8);
+    same("place of its start", offsetof(odm_explained, start), 12);
+    same("place of its length", offsetof(odm_explained, length), 16);
+    same("place of its count", offsetof(odm_explained, count), 20);
+    same("place of its codes", offsetof(odm_explained, codes), 24);
+}
+
 int main(void) {
     check_judging();
     check_desk();
@@ -175,6 +205,7 @@ int main(void) {
     check_rounding();
     check_widths();
     check_limit();
+    check_explaining();
     if (failures > 0) return 1;
     puts("the header's names answer as they should");
     return 0;

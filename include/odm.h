@@ -132,6 +132,27 @@ odm_rounded odm_round(const uint8_t *text, size_t text_len, uint32_t decimals);
 uint32_t odm_widen(const uint8_t *narrow, size_t narrow_len, uint8_t *wide, size_t wide_len);
 uint32_t odm_narrow(const uint8_t *wide, size_t wide_len, uint8_t *narrow, size_t narrow_len);
 
+/* Why a message is refused, with nothing loaded: where the offending bytes stand in the feed, and what could have stood there instead.
+ *
+ * The bytes are: for ODM_LONG the text past its first 254 bytes; for ODM_BYTE the first such byte; for ODM_KEYWORD the keyword; for ODM_VALUE and
+ * ODM_TIME_ORDER the value, a number's up to its first blank and in a data line the one field; for ODM_UNIT what follows the number, without blanks about it;
+ * for ODM_FORM and ODM_ORDER the line without blanks about it. An empty value lies just past the `=`, an empty keyword at it. For ODM_SHORT there are none,
+ * and the place is where the message ends: at the next heading line or the feed's end.
+ *
+ * Nothing of these bytes was judged right: say them as what is wrong, never as a row's value.
+ */
+typedef struct {
+    uint32_t reason;   /* as odm_judge answers it */
+    uint32_t rows;     /* as odm_judge answers it */
+    uint32_t line;     /* as odm_judge answers it */
+    uint32_t start;    /* for 3 to 11 the place of the offending bytes in the feed, from 0; else 0 */
+    uint32_t length;   /* how many they are; 0 where there are none */
+    uint32_t count;    /* for ODM_ORDER and ODM_SHORT how many keywords could have stood there; else 0 */
+    uint32_t codes[4]; /* their codes in rising order, 9 for a data line, without comments and headings; 0 past the count */
+} odm_explained;
+
+odm_explained odm_explain(const uint8_t *feed, size_t feed_len, size_t message);
+
 #ifdef __cplusplus
 }
 #endif

@@ -5,3 +5,4 @@ pub mod Rows
 pub mod OwnRow
 pub mod OneAnswer
 pub mod Widths
+pub mod Why

@@ -25,10 +25,15 @@ use Rattle.judge.specs.Message.{fromHeading, headings, upTo, messageOf, endOf, 
 use Rattle.desk.specs.Loads.{deskAfter, loadOf}
 use Rattle.tables.specs.Table.{entryBytes, tableBytes}
 use Rattle.rows.specs.Place.{roomFor}
+use Rattle.parts.specs.Parts.{sidesIn, keywordPart, valueIn, kindIn, firstWrong, dataPart, valuePart, unitPart, offending}
+use Rattle.explain.specs.Codes as Codes
+use Rattle.explain.specs.Codes.{those, codeMore, codesOf, codesFor}
+use Rattle.explain.specs.Explain.{blamed, ended, explainFrom, explainLines, explainOf}
 use Rattle.demands.specs.Sixty.{epochStands, sixty, InAnyState, Sixty}
 use Rattle.demands.specs.Degree.{Tied, Degree}
 use Rattle.demands.specs.Marked.{Marked}
 use Rattle.demands.specs.Healing.{Met}
+use Rattle.demands.specs.Refusals.{Refusals}
 
 -- membership by a test that computes
 unfoldable has : ℕ → List ℕ → Bool
@@ -86,8 +91,8 @@ tied = (
 )
 
 -- one declaration, so that the definitions are opened once
-both : Marked × Met
-unfolding has bytes agrees run isWord lastLine linesFrom linesBefore cutEnd trimOf heads headingOf wordEnds commentOf sidesOf assignmentOf fieldThen fieldsFrom fieldMore gathered signLen isExponent endsNumber afterWhole isNumber digitsFrom integerTop isInteger isLeap monthDays daysBefore monthDay yearDay lastSecond isClock isFraction timedOf epochOf isBefore pick keywords codeIn keywordOf isUnit nextOf allows isTimely areNumbers dataAt dataOf fieldsOf pastWhole wholeOf numberOf pastTime isEarly timeOf valueOf assignOf metaCode metaOf plainOf pastComment uncommentedOf filledOf stepOf fromHeading headings upTo messageOf endOf judgeTexts judgeLines judgeOf groupOf rowsAt rowsFrom rowsLines roomFor deskAfter loadOf entryBytes tableBytes
+both : Marked × Met × Refusals
+unfolding has bytes agrees run isWord lastLine linesFrom linesBefore cutEnd trimOf heads headingOf wordEnds commentOf sidesOf assignmentOf fieldThen fieldsFrom fieldMore gathered signLen isExponent endsNumber afterWhole isNumber digitsFrom integerTop isInteger isLeap monthDays daysBefore monthDay yearDay lastSecond isClock isFraction timedOf epochOf isBefore pick keywords codeIn keywordOf isUnit nextOf allows isTimely areNumbers dataAt dataOf fieldsOf pastWhole wholeOf numberOf pastTime isEarly timeOf valueOf assignOf metaCode metaOf plainOf pastComment uncommentedOf filledOf stepOf fromHeading headings upTo messageOf endOf judgeTexts judgeLines judgeOf groupOf rowsAt rowsFrom rowsLines roomFor deskAfter loadOf entryBytes tableBytes sidesIn keywordPart valueIn kindIn firstWrong dataPart valuePart unitPart offending those codeMore Codes.gathered codesOf codesFor blamed ended explainFrom explainLines explainOf
 both =
     let sixties : Sixty = (
       (refl, refl, refl, refl, refl, (λ b. refl), (λ b. refl), sixty-one),
@@ -101,6 +106,7 @@ both =
     let degrees : Degree = (tied, (refl, refl, refl), (refl, refl, refl, refl), (refl, refl, refl), (refl, refl, refl)) in (
       ((λ b. refl), (λ b. refl), (λ b. refl), (λ b. refl), (λ b. refl), sixties, refl, refl, refl, refl, refl, degrees, refl, refl, refl, refl, refl, refl, refl, refl, refl, refl, refl, refl, refl),
       (mem-of 2 _ refl, mem-of 22 _ refl, refl, refl, refl, refl, refl, refl),
+      ((refl, refl, refl), (refl, refl, refl, refl, refl, refl, refl, refl), (refl, refl, refl, refl, refl), refl, refl),
     )
 
 pub marked : Marked
@@ -109,3 +115,7 @@ marked = both .0
 -- the hypotheses of demand 3 can be met
 pub met : Met
 met = both .1
+
+-- each reason explained
+pub refusals : Refusals
+refusals = both .2

@@ -16,6 +16,7 @@ one-answer = (
   (λ d k f t. of-equation _),
   (λ f k b. of-equation _),
   (λ f k b. of-equation _),
+  (λ f k. of-equation _),
   (λ s decimals. of-equation _),
   (λ t u. of-equation _),
   (λ t u. of-equation _),

@@ -140,7 +140,7 @@ module _ (n : ℕ) (limit : n ≤ feedLimit) where
   step-held : (s : List ℕ) (x : Step) → Good s x → (at : ℕ) → at + length s ≤ n → (g line : ℕ) → g ≤ feedLimit → line ≤ feedLimit
       → Every (Held n) (rowsAt (x .code) g line at (take (x .count) (x .spans)))
   unfolding rowsAt
-  step-held s _ (offence st r) at h g line hg hl = tt
+  step-held s _ (offence st r _) at h g line hg hl = tt
   step-held s _ (none st) at h g line hg hl = tt
   step-held s _ (one st c p hc i) at h g line hg hl = at-held s at h g line hg hl (p ∷ []) c (omega arith) (i, tt)
   step-held s _ (seven st ps i) at h g line hg hl =

@@ -5,3 +5,5 @@ pub mod Loads
 pub mod Healing
 pub mod OneAnswer
 pub mod Widths
+pub mod Why
+pub mod Refusals

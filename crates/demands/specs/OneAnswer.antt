@@ -19,6 +19,8 @@ use Rattle.tables.specs.Widths.{widenOf, widened, narrowOf, narrowed}
 use Rattle.write.specs.Plain.{plainOf}
 use Rattle.write.specs.Written.{writtenOf, bufferAfter}
 use Rattle.write.specs.declared.Written.{Written}
+use Rattle.explain.specs.Explain.{explainOf}
+use Rattle.explain.specs.declared.Explained.{Explained}
 use Rattle.rounding.specs.Say.{sayOf}
 use Rattle.rounding.specs.declared.Said.{Said}
 
@@ -36,6 +38,7 @@ OneAnswer =
     × ((d : Desk) (k : Ticket) (f t : List ℕ) → One {A = List ℕ} (λ v. v ≡ partHeard (readOf d k f t) f))
     × ((f : List ℕ) (k : ℕ) (b : List ℕ) → One {A = Written} (λ r. r ≡ writtenOf f k (length b)))
     × ((f : List ℕ) (k : ℕ) (b : List ℕ) → One {A = List ℕ} (λ c. c ≡ bufferAfter (writtenOf f k (length b)) (plainOf f k) b))
+    × ((f : List ℕ) (k : ℕ) → One {A = Explained} (λ r. r ≡ explainOf f k))
     × ((s : List ℕ) (decimals : ℕ) → One {A = Said} (λ r. r ≡ sayOf s decimals))
     × ((t u : List ℕ) → One {A = Resized} (λ r. r ≡ widenOf t u))
     × ((t u : List ℕ) → One {A = List ℕ} (λ x. x ≡ widened t u))

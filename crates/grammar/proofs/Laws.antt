@@ -13,6 +13,7 @@ use Rattle.words.specs.Words.{isWord}
 use Rattle.grammar.specs.Rows.{between, Row, pick}
 use Rattle.grammar.specs.Keywords.{unitOf, isUnit}
 use Rattle.grammar.specs.Order.{only, opmOrder, oemOrder, nextOf, allows}
+use Rattle.grammar.specs.declared.Next.{Next}
 use Rattle.grammar.specs.declared.Form.{Form}
 use Rattle.grammar.specs.declared.Form.the-variants.{Opm, Oem}
 
@@ -84,6 +85,15 @@ unfolding nextOf
 next-beyond Opm n h = sym (picks opmOrder (only 0) beyond n (omega arith))
 next-beyond Oem n h = sym (picks oemOrder (only 0) beyond n (omega arith))
 
+-- what is so at each code that a row has, and where no row has the code, is so at every code
+pub next-all : (f : Form) (p : ℕ → Next → Bool) → below (λ n. p n (nextOf f n)) beyond ≡ true → ((n : ℕ) → p n (only 0) ≡ true)
+    → (n : ℕ) → p n (nextOf f n) ≡ true
+next-all f p e h n = go (leb beyond n) refl
+  where
+    go : (t : Bool) → leb beyond n ≡ t → p n (nextOf f n) ≡ true
+    go true z = rw (next-beyond f n (leb-true beyond n z)) (h n)
+    go false z = below-all (λ k. p k (nextOf f k)) beyond n e (leb-false beyond n z)
+
 none-allowed : (c : ℕ) (t : Bool) → leb 1 c ≡ t → t && (eqb c 0 || between 0 0 c) ≡ false
 none-allowed c true e = let h = leb-true 1 c e in rw (ne-eqb c 0 (λ z. omega arith), lt-leb c 0 h, le-leb 0 c zero-le)
 none-allowed c false e = refl
@@ -94,12 +104,8 @@ comesOnly f c m = below (λ n. not (allows (nextOf f n) c) || eqb n m) beyond
 
 pub next-only : (f : Form) (c m : ℕ) → comesOnly f c m ≡ true → (n : ℕ) → (n ≡ m → ⊥) → allows (nextOf f n) c ≡ false
 unfolding comesOnly allows
-next-only f c m e n h = go (leb beyond n) refl
+next-only f c m e n h = barred _ (next-all f (λ k x. not (allows x c) || eqb k m) e (λ k. rw (none-allowed c _ refl, allows)) n)
   where
     barred : (t : Bool) → not t || eqb n m ≡ true → t ≡ false
     barred true z = absurd (false≢true (sym (ne-eqb n m h) ∙ z))
     barred false z = refl
-
-    go : (t : Bool) → leb beyond n ≡ t → allows (nextOf f n) c ≡ false
-    go true z = rw (next-beyond f n (leb-true beyond n z), allows) (none-allowed c _ refl)
-    go false z = barred _ (below-all (λ k. not (allows (nextOf f k) c) || eqb k m) beyond n e (leb-false beyond n z))

@@ -136,7 +136,7 @@ fn cut_end(text: &[u8]) -> usize
         }
         end -= 1;
     }
-    end
+    end // of only blanks nothing is left
 }
 
 // The text with the blanks at both ends cut.

@@ -17,6 +17,7 @@ use Rattle.tables.specs.declared.Resized.{Resized}
 use Rattle.tables.specs.declared.Resized.the-variants as Sizing
 use Rattle.write.specs.declared.Written.{Written}
 use Rattle.write.specs.declared.Written.the-variants as Writing
+use Rattle.explain.specs.declared.Explained.{Explained}
 use Rattle.rounding.specs.declared.Said.{Said}
 use Rattle.rounding.specs.declared.Said.the-variants as Saying
 use Rattle.odm.specs.declared.OdmCounted.{OdmCounted}
@@ -25,6 +26,7 @@ use Rattle.odm.specs.declared.OdmRow.{OdmRow}
 use Rattle.odm.specs.declared.OdmJudged.{OdmJudged}
 use Rattle.odm.specs.declared.OdmWritten.{OdmWritten}
 use Rattle.odm.specs.declared.OdmRounded.{OdmRounded}
+use Rattle.odm.specs.declared.OdmExplained.{OdmExplained}
 
 abbrev pub countedNos : Counted → OdmCounted
 countedNos (Headings n) = record { reason = 0; count = n }
@@ -64,3 +66,17 @@ roundedNos (Saying.Refused r) = record { reason = reasonNo r; units = pos 0 }
 abbrev pub resizedNo : Resized → ℕ
 resizedNo Sizing.Done = 0
 resizedNo (Sizing.Refused r) = reasonNo r
+
+-- the judgement's numbers, and beside them where and what
+abbrev pub explainedNos : Explained → OdmExplained
+explainedNos x =
+    let a = judgedNos (x .judged) in
+    record {
+      reason = a .reason;
+      rows = a .rows;
+      line = a .line;
+      start = x .start;
+      length = x .length;
+      count = x .listed .count;
+      codes = x .listed .codes;
+    }

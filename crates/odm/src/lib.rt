@@ -14,11 +14,12 @@ ghost use mathlib.Core.Path.{_≡_};
 ghost use Rattle.judge.specs.Message.{countOf, judgeOf};
 ghost use lib.ListN.{length};
 ghost use Rattle.desk.specs.Loads.{loadOf, loadTable, readOf};
+ghost use Rattle.explain.specs.Explain.{explainOf};
 ghost use Rattle.rounding.specs.Say.{sayOf};
 ghost use Rattle.tables.specs.Widths.{widenOf, widened, narrowOf, narrowed};
 ghost use Rattle.write.specs.Plain.{plainOf};
 ghost use Rattle.write.specs.Written.{writtenOf, bufferAfter};
-ghost use Rattle.odm.specs.Face.{countedNos, judgedNos, deskNos, ticketNos, placedNos, rowNos, writtenNos, roundedNos, resizedNo};
+ghost use Rattle.odm.specs.Face.{countedNos, judgedNos, deskNos, ticketNos, placedNos, rowNos, writtenNos, roundedNos, resizedNo, explainedNos};
 
 #[repr(C)]
 pub struct OdmCounted {
@@ -62,6 +63,17 @@ pub struct OdmWritten {
 pub struct OdmRounded {
     pub reason: u32,
     pub units: i64,
+}
+
+#[repr(C)]
+pub struct OdmExplained {
+    pub reason: u32,
+    pub rows: u32,
+    pub line: u32,
+    pub start: u32,
+    pub length: u32,
+    pub count: u32,
+    pub codes: [u32; 4],
 }
 
 // How many messages a feed has.
@@ -233,4 +245,25 @@ pub extern "C" fn odm_narrow(wide: &[u8], narrow: &mut [u8]) -> u32
     ensures table { λ _. ⌜ now (narrow .exit) ≡ narrowed (now (wide .entry)) (now (narrow .entry)) ⌝ }
 {
     resized_number(tables::narrow(wide, narrow))
+}
+
+// Why a message is refused.
+#[no_mangle]
+pub extern "C" fn odm_explain(feed: &[u8], message: usize) -> OdmExplained
+    ensures { λ r. ⌜ r ≡ explainedNos (explainOf (now (feed .entry)) message) ⌝ }
+{
+    let explained = explain::explain(feed, message);
+    let judged = explained.judged;
+    let answer = judged_numbers(judged);
+    let listed = explained.listed;
+    let codes = listed.codes;
+    OdmExplained {
+        reason: answer.reason,
+        rows: answer.rows,
+        line: answer.line,
+        start: explained.start,
+        length: explained.length,
+        count: listed.count,
+        codes,
+    }
 }

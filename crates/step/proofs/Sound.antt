@@ -33,14 +33,20 @@ use Rattle.grammar.specs.declared.Kind.{Kind}
 use Rattle.grammar.specs.declared.Kind.the-variants.{Version, Text, Integer, Number, Epoch, Nothing}
 use Rattle.values.specs.Number.{isNumber, isText, isVersion, isInteger}
 use Rattle.step.specs.Step.{wrong, noRow, oneRow, sevenRows, fitsHere, sixtyStands, part, Inside, SevenInside, areNumbers, isTimely, dataAt, dataOf, fieldsOf, wholeOf, wordLen, numberOf, pastTime, isEarly, timeOf, valueOf, assignOf, metaCode, metaOf, plainOf, pastComment, uncommentedOf, filledOf, stepOf}
+use Rattle.step.specs.declared.Verdict.the-variants.{Wrong}
 use Rattle.step.specs.declared.State.{State}
 use Rattle.step.specs.declared.Step.{Step}
+use Rattle.reasons.specs.Reasons.{reasonNo}
 use Rattle.reasons.specs.declared.Reason.{Reason}
 use Rattle.reasons.specs.declared.Reason.the-variants as Reasons
 use Rattle.step.proofs.Laws.{part-length, word-le, trim-inside, sides-inside, fields-inside}
 
+-- a reason that a line can have
+abbrev pub OfLine : Reason → Type 0
+OfLine r = (3 ≤ reasonNo r) × (reasonNo r ≤ 10)
+
 pub data Good (s : List ℕ) : Step → Type 0 where
-  offence : (st : State) (r : Reason) → Good s (wrong st r)
+  offence : (st : State) (r : Reason) → OfLine r → Good s (wrong st r)
   none : (st : State) → Good s (noRow st)
   one : (st : State) (c : ℕ) (p : Span) → c ≤ 45 → Inside p s → Good s (oneRow st c p)
   seven : (st : State) (ps : List Span) → SevenInside ps s → Good s (sevenRows st ps)
@@ -109,14 +115,14 @@ module _ (s : List ℕ) where
   module _ (st : State) where
     data-at-good : (f : Fields) (t : Instant) → SevenInside (f .spans) s → Good s (dataAt st f t s)
     unfolding dataAt
-    data-at-good f t h = either (areNumbers (drop 1 (f .spans)) s) (either (isTimely st t) (seven _ _ h) (offence st _)) (offence st _)
+    data-at-good f t h = either (areNumbers (drop 1 (f .spans)) s) (either (isTimely st t) (seven _ _ h) (offence st _ (omega arith))) (offence st _ (omega arith))
 
     data-good : (f : Fields) → SevenInside (f .spans) s → Good s (dataOf st f s)
     unfolding dataOf
-    data-good f h = either (fitsHere st 9) (go (epochOf (part (getD (f .spans) 0 noSpan) s) (sixtyStands st 9))) (offence st _)
+    data-good f h = either (fitsHere st 9) (go (epochOf (part (getD (f .spans) 0 noSpan) s) (sixtyStands st 9))) (offence st _ (omega arith))
       where
         go : (e : EpochRead) → Good s (elim e [ Bad ↦ wrong st Reasons.Value | At t ↦ dataAt st f t s ])
-        go Bad = offence st _
+        go Bad = offence st Reasons.Value (omega arith)
         go (At t) = data-at-good f t h
 
     fields-good : Good s (fieldsOf st s)
@@ -124,25 +130,25 @@ module _ (s : List ℕ) where
     fields-good = go (st .form)
       where
         go : (f : Form) → Good s (elim f [ Opm ↦ wrong st Reasons.Form | Oem ↦ elim (eqb (splitOf s .count) 7) [ false ↦ wrong st Reasons.Form | true ↦ dataOf st (splitOf s) s ] ])
-        go Opm = offence st _
-        go Oem = either (eqb (splitOf s .count) 7) (data-good (splitOf s) (fields-inside s _ refl)) (offence st _)
+        go Opm = offence st Reasons.Form (omega arith)
+        go Oem = either (eqb (splitOf s .count) 7) (data-good (splitOf s) (fields-inside s _ refl)) (offence st _ (omega arith))
 
     meta-good : (c n : ℕ) → c ≤ 45 → n ≤ length s → Good s (metaOf st c n)
     unfolding metaOf
-    meta-good c n k h = either (fitsHere st c) (one _ c _ k (record { order = omega arith; end = h })) (offence st _)
+    meta-good c n k h = either (fitsHere st c) (one _ c _ k (record { order = omega arith; end = h })) (offence st _ (omega arith))
 
     module _ (c : ℕ) (p : Span) (k : c ≤ 45) (h : Inside p s) where
       whole-good : (t : Bool) → Good s (wholeOf st c p (part p s) t)
       unfolding wholeOf
-      whole-good t = either t (one _ c p k h) (offence st _)
+      whole-good t = either t (one _ c p k h) (offence st _ (omega arith))
 
       time-good : Good s (timeOf st c p s)
       unfolding timeOf
       time-good = go (epochOf (part p s) (sixtyStands st c))
         where
           go : (e : EpochRead) → Good s (elim e [ Bad ↦ wrong st Reasons.Value | At t ↦ elim (isEarly st c t) [ true ↦ wrong st Reasons.TimeOrder | false ↦ oneRow (pastTime st c t) c p ] ])
-          go Bad = offence st _
-          go (At t) = either (isEarly st c t) (offence st _) (one _ c p k h)
+          go Bad = offence st Reasons.Value (omega arith)
+          go (At t) = either (isEarly st c t) (offence st _ (omega arith)) (one _ c p k h)
 
       number-good : Good s (numberOf st c p s)
       unfolding numberOf
@@ -153,8 +159,8 @@ module _ (s : List ℕ) where
           either (isNumber (take n v))
           (either (isUnit c (part (trimOf r) r))
           (one _ c _ k (record { order = omega arith; end = omega (arith, word-le v, part-length p s h, h .order, h .end) }))
-          (offence st _))
-          (offence st _)
+          (offence st _ (omega arith)))
+          (offence st _ (omega arith))
 
       value-good : Good s (valueOf st c p s)
       unfolding valueOf
@@ -174,7 +180,7 @@ module _ (s : List ℕ) where
           go Integer = whole-good _
           go Number = number-good
           go Epoch = time-good
-          go Nothing = offence st _
+          go Nothing = offence st Reasons.Value (omega arith)
 
     assign-good : (x : Sides) → Inside (x .keyword) s × Inside (x .value) s → Good s (assignOf st x s)
     unfolding assignOf
@@ -182,8 +188,8 @@ module _ (s : List ℕ) where
       where
         go : (q : Keyword) → keywordOf (st .form) (part (x .keyword) s) ≡ q
             → Good s (elim q [ Unknown ↦ wrong st Reasons.Keyword | Code c ↦ elim (fitsHere st c) [ false ↦ wrong st Reasons.Order | true ↦ valueOf st c (x .value) s ] ])
-        go Unknown e = offence st _
-        go (Code c) e = either (fitsHere st c) (value-good c (x .value) (keyword-le _ _ c e) (h .1)) (offence st _)
+        go Unknown e = offence st Reasons.Keyword (omega arith)
+        go (Code c) e = either (fitsHere st c) (value-good c (x .value) (keyword-le _ _ c e) (h .1)) (offence st _ (omega arith))
 
     plain-good : Good s (plainOf st s)
     unfolding plainOf
@@ -209,8 +215,8 @@ module _ (s : List ℕ) where
     pub step-good : Good s (stepOf st s)
     unfolding stepOf
     step-good =
-        either (isLong s) (offence st _)
-        (either (ltb (oddAt s) (length s)) (offence st _) (either (eqb (trimOf s .to) 0) (none st) (filled-good (trimOf s) (trim-inside s _ refl))))
+        either (isLong s) (offence st _ (omega arith))
+        (either (ltb (oddAt s) (length s)) (offence st _ (omega arith)) (either (eqb (trimOf s .to) 0) (none st) (filled-good (trimOf s) (trim-inside s _ refl))))
 
 -- what its count, spans and code say, whichever form it has: the spans lie in the line's text
 pub record Spans (s : List ℕ) (x : Step) : Type 0 where
@@ -220,7 +226,7 @@ pub record Spans (s : List ℕ) (x : Step) : Type 0 where
   pub code : x .code ≤ 45
 
 spans-good : {s : List ℕ} {x : Step} → Good s x → Spans s x
-spans-good (offence st r) = record { few = omega arith; size = refl; inside = λ i h. absurd (omega arith); code = omega arith }
+spans-good (offence st r h) = record { few = omega arith; size = refl; inside = λ i h. absurd (omega arith); code = omega arith }
 spans-good (none st) = record { few = omega arith; size = refl; inside = λ i h. absurd (omega arith); code = omega arith }
 spans-good (one st c p k h) =
     record { few = omega arith; size = refl; inside = λ i j. let z : i ≡ 0 = omega arith in rw z h; code = k }
@@ -228,3 +234,13 @@ spans-good (seven st ps h) = record { few = omega arith; size = h .size; inside 
 
 pub spans : (st : State) (s : List ℕ) → Spans s (stepOf st s)
 spans st s = spans-good (step-good s st)
+
+-- a line offends by a reason of lines
+pub of-line : (st : State) (s : List ℕ) (r : Reason) → stepOf st s .verdict ≡ Wrong r → OfLine r
+of-line st s r = go (step-good s st)
+  where
+    go : {x : Step} → Good s x → x .verdict ≡ Wrong r → OfLine r
+    go (offence st' q h) e = let z : q ≡ r = cc in rw (← z) h
+    go (none st') e = let z : _≡_ {A = ℕ} 0 1 = cc in absurd (omega arith)
+    go (one st' c p k h) e = let z : _≡_ {A = ℕ} 0 1 = cc in absurd (omega arith)
+    go (seven st' ps h) e = let z : _≡_ {A = ℕ} 0 1 = cc in absurd (omega arith)
