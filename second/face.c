@@ -23,6 +23,9 @@
  * Widen:  u32 kind (6), a narrow and a wide table as blocks.
  * Narrow: u32 kind (7), a wide and a narrow table as blocks.
  * Answer: u32 reason, then every byte of either table, in the order in which they were sent.
+ *
+ * Explain: u32 kind (8), a feed, u32 how many message numbers, each of them a u64.
+ * Answer: for each message number u32 reason, u32 rows, u32 line, u32 start, u32 length, u32 count and four u32 codes.
  */
 #define _DEFAULT_SOURCE
 #include <stddef.h>
@@ -35,7 +38,7 @@
 
 #include "odm.h"
 
-enum { JUDGE = 1, PLACE = 2, READ = 3, WRITE = 4, SAY = 5, WIDEN = 6, NARROW = 7 };
+enum { JUDGE = 1, PLACE = 2, READ = 3, WRITE = 4, SAY = 5, WIDEN = 6, NARROW = 7, EXPLAIN = 8 };
 enum { WHOLE = 1, PADDED = 2, AGAIN = 3 };
 enum { BUFFER = 1 << 16 };
 
@@ -291,6 +294,21 @@ static void answer_move(uint32_t (*move)(const uint8_t *, size_t, uint8_t *, siz
     put_bytes(into.bytes, into.length);
 }
 
+/* Every code goes back, those past the count too, to show that they are 0. */
+static void answer_explain(void) {
+    block feed = take_feed();
+    for (uint32_t left = take_u32(); left > 0; left--) {
+        odm_explained explained = odm_explain(feed.bytes, feed.length, (size_t)take_number(8));
+        put_number(explained.reason);
+        put_number(explained.rows);
+        put_number(explained.line);
+        put_number(explained.start);
+        put_number(explained.length);
+        put_number(explained.count);
+        for (int at = 0; at < 4; at++) put_number(explained.codes[at]);
+    }
+}
+
 int main(void) {
     _Static_assert(sizeof(size_t) == 8, "message numbers are passed as 64 bits");
     while (in_at < in_end || fill()) {
@@ -309,6 +327,8 @@ int main(void) {
             answer_move(odm_widen);
         } else if (kind == NARROW) {
             answer_move(odm_narrow);
+        } else if (kind == EXPLAIN) {
+            answer_explain();
         } else {
             refuse("a request of an unknown kind");
         }

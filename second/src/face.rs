@@ -1,11 +1,12 @@
 //! Asks the product's C face, which runs as a child process, for its answers.
 //!
-//! There is a kind of request for each thing that is asked: judging, placing, reading, writing, saying, widening and narrowing. Tables, buffers and
-//! texts go over whole, and so do the tables and the buffer on their way back. A feed goes over once for all that is asked about it in a row, and
-//! its padding not at all. `face.c` says byte by byte what a request and its answer are.
+//! There is a kind of request for each thing that is asked: judging, placing, reading, writing, saying, widening, narrowing and explaining. Tables,
+//! buffers and texts go over whole, and so do the tables and the buffer on their way back. A feed goes over once for all that is asked about it in a
+//! row, and its padding not at all. `face.c` says byte by byte what a request and its answer are.
 
 use crate::bytes::{Bytes, Padded};
 use crate::desk::{Desk, Load, Reading};
+use crate::judge::{Explained, MOST_CODES};
 use crate::say::{Said, Saying};
 use crate::send::{Sending, Sent};
 use crate::widths::{Moved, Moving, Way};
@@ -22,6 +23,7 @@ const WRITE: u32 = 4;
 const SAY: u32 = 5;
 const WIDEN: u32 = 6;
 const NARROW: u32 = 7;
+const EXPLAIN: u32 = 8;
 
 /// The forms of a feed.
 const WHOLE: u32 = 1;
@@ -137,6 +139,17 @@ impl Face {
         let [reason] = self.numbers()?;
         let from = self.bytes(moving.from.len())?;
         Ok(ToldMove { from, moved: Moved { reason, into: self.bytes(moving.into.len())? } })
+    }
+
+    /// The next answer, for a request to explain so many messages.
+    pub fn next_explained(&mut self, messages: usize) -> Result<Vec<Explained>, String> {
+        (0..messages).map(|_| self.explained()).collect()
+    }
+
+    fn explained(&mut self) -> Result<Explained, String> {
+        let [reason, rows, line, start, length, count] = self.numbers()?;
+        let codes = self.numbers::<MOST_CODES>()?;
+        Ok(Explained { reason, rows, line, start, length, count, codes })
     }
 
     fn numbers<const N: usize>(&mut self) -> Result<[u32; N], String> {
@@ -274,6 +287,14 @@ impl Requests {
         self.add_block(&moving.into);
     }
 
+    /// Adds a request to explain messages.
+    pub fn add_explain(&mut self, feed: &Bytes, messages: &[u64]) {
+        self.add_number(EXPLAIN);
+        self.add_feed(feed);
+        self.add_size(messages.len());
+        messages.iter().for_each(|message| self.add_message(*message));
+    }
+
     fn add_number(&mut self, number: u32) {
         self.bytes.extend_from_slice(&number.to_le_bytes());
     }
@@ -374,6 +395,25 @@ mod tests {
         assert_eq!(requests.take(), [6, 0, 0, 0, 2, 0, 0, 0, 1, 2, 1, 0, 0, 0, 3]);
         requests.add_move(&Moving { way: Way::Narrow, from: Vec::new(), into: vec![3] });
         assert_eq!(requests.take(), [7, 0, 0, 0, 0, 0, 0, 0, 1, 0, 0, 0, 3]);
+    }
+
+    #[test]
+    fn a_request_to_explain_is_written_low_byte_first() {
+        let mut requests = Requests::default();
+        requests.add_explain(&b"ab"[..].into(), &[0x0102]);
+        assert_eq!(requests.take(), [8, 0, 0, 0, 1, 0, 0, 0, 2, 0, 0, 0, b'a', b'b', 1, 0, 0, 0, 2, 1, 0, 0, 0, 0, 0, 0]);
+    }
+
+    #[test]
+    fn what_is_explained_is_read_low_byte_first() {
+        // This face says what it hears.
+        let mut face = Face::start(&["cat".to_string()]).expect("started");
+        let numbers: Vec<u32> = (1..=20).map(|at| at * 0x0100_0001).collect();
+        face.send(numbers.iter().flat_map(|number| number.to_le_bytes()).collect());
+        let told = face.next_explained(2).expect("answered");
+        let all: Vec<u32> = told.iter().flat_map(|explained| explained.named().map(|(_, number)| number)).collect();
+        assert_eq!(all, numbers);
+        assert_eq!(face.finish(), Ok(()));
     }
 
     #[test]

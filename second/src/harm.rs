@@ -42,7 +42,8 @@ fn any_line<'a>(lines: &'a mut [Line], dice: &mut Dice, test: fn(&Line) -> bool)
     any_place(lines, dice, test).map(|at| &mut lines[at])
 }
 
-fn raw(bytes: &[u8]) -> Line {
+/// A line of these bytes.
+pub fn raw(bytes: &[u8]) -> Line {
     Line { part: Part::Raw(bytes.to_vec()), code: 0, group: 0, time: None, blanks: [0; 5], stretch: 0 }
 }
 

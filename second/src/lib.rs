@@ -1,6 +1,7 @@
-//! The second program: a judge, a desk, a writer, a sayer and a mover of tables made from documents 01 and 02 alone, and what the comparer needs
-//! to run them beside the product.
+//! The second program: a judge that explains itself, a desk, a writer, a sayer and a mover of tables made from documents 01 and 02 alone, and what
+//! the comparer needs to run them beside the product.
 
+pub mod aims;
 pub mod bytes;
 pub mod cases;
 pub mod clock;
@@ -10,6 +11,7 @@ pub mod face;
 pub mod harm;
 pub mod judge;
 pub mod make;
+pub mod mend;
 pub mod movings;
 pub mod natural;
 pub mod say;

@@ -503,6 +503,15 @@ fn write_data(out: &mut Vec<u8>, values: &mut Vec<(u32, usize, usize)>, line: &L
 pub struct Written {
     pub feed: Vec<u8>,
     pub rows: Vec<Vec<Row>>,
+    /// Where each line of each message is, and at the end of each message where a line more would be.
+    pub spots: Vec<Vec<Spot>>,
+}
+
+/// The number of a line within its message, and where it begins in the feed.
+#[derive(Clone, Copy, Debug, PartialEq, Eq)]
+pub struct Spot {
+    pub line: usize,
+    pub start: usize,
 }
 
 /// Writes bytes and counts lines byte by byte, unlike the judge, which looks for endings.
@@ -529,31 +538,39 @@ impl Writer {
     fn push_all(&mut self, bytes: &[u8]) {
         bytes.iter().for_each(|byte| self.push(*byte));
     }
+
+    /// Where the next byte goes, in a message that began after so many endings.
+    fn spot(&self, heading: usize) -> Spot {
+        Spot { line: self.ended - heading + 1, start: self.out.len() }
+    }
 }
 
 /// Writes a draft.
 pub fn write(draft: &Draft, dice: &mut Dice) -> Written {
     let mut writer = Writer { out: Vec::new(), ended: 0, open: None };
     writer.push_all(&draft.before);
-    let mut rows = Vec::new();
+    let (mut rows, mut spots) = (Vec::new(), Vec::new());
     for (at, message) in draft.messages.iter().enumerate() {
         let open_end = draft.open_end && at + 1 == draft.messages.len();
-        rows.push(write_message(&mut writer, message, draft.ending, open_end, dice));
+        let (of_rows, of_lines) = write_message(&mut writer, message, draft.ending, open_end, dice);
+        rows.push(of_rows);
+        spots.push(of_lines);
     }
-    Written { feed: writer.out, rows }
+    Written { feed: writer.out, rows, spots }
 }
 
-fn write_message(writer: &mut Writer, lines: &[Line], ending: Ending, open_end: bool, dice: &mut Dice) -> Vec<Row> {
+fn write_message(writer: &mut Writer, lines: &[Line], ending: Ending, open_end: bool, dice: &mut Dice) -> (Vec<Row>, Vec<Spot>) {
     let heading = writer.ended;
     let mut rows: Vec<Row> = Vec::new();
+    let mut spots = Vec::new();
     for (at, line) in lines.iter().enumerate() {
         let (text, values) = line_text(line);
-        let from = writer.out.len();
+        let spot = writer.spot(heading);
+        spots.push(spot);
         for (code, start, length) in values {
             // A comment takes the group of the row before it.
             let group = if code == 45 { rows.last().map_or(0, |row| row.group) } else { line.group };
-            let line = writer.ended - heading + 1;
-            rows.push(Row { code, group, line: line as u32, start: (from + start) as u32, length: length as u32 });
+            rows.push(Row { code, group, line: spot.line as u32, start: (spot.start + start) as u32, length: length as u32 });
         }
         writer.push_all(&text);
         if open_end && at + 1 == lines.len() {
@@ -564,7 +581,11 @@ fn write_message(writer: &mut Writer, lines: &[Line], ending: Ending, open_end: 
             Ending::Mixed => writer.push_all(dice.pick(&ENDINGS)),
         }
     }
-    rows
+    let end = writer.spot(heading);
+    // A line without an ending is a line too, unless it is empty.
+    let is_open = writer.out.last().is_some_and(|byte| !matches!(byte, b'\r' | b'\n'));
+    spots.push(Spot { line: end.line + usize::from(is_open), ..end });
+    (rows, spots)
 }
 
 /// What must go out for a message of these lines, by their parts alone; bytes that are no part's have no place in a sound message.
@@ -716,6 +737,25 @@ mod tests {
             }
         }
         assert!(both > 300 && neither > 300 && parted > 50, "seed {seed}: both {both}, neither {neither}, parted {parted}");
+    }
+
+    #[test]
+    fn lines_are_where_they_were_written() {
+        let seed = 79;
+        for turn in 0..200 {
+            let mut dice = Dice::new(seed, turn);
+            let draft = draft(&mut dice);
+            let Written { feed, spots, .. } = write(&draft, &mut dice);
+            for (lines, spots) in draft.messages.iter().zip(&spots) {
+                assert_eq!(spots.len(), lines.len() + 1, "seed {seed}, turn {turn}");
+                lines.iter().zip(spots).for_each(|(line, spot)| assert!(feed[spot.start..].starts_with(&line_text(line).0)));
+            }
+            for (message, spots) in spots.iter().enumerate() {
+                let end = spots[spots.len() - 1];
+                let count = crate::judge::Feed::new(&feed).lines(message as u64 + 1).count();
+                assert_eq!(end.line, count + 1, "seed {seed}, turn {turn}");
+            }
+        }
     }
 
     #[test]

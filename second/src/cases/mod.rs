@@ -3,6 +3,7 @@
 mod day;
 mod degree;
 mod desks;
+mod explaining;
 mod feeds;
 mod lines;
 mod moving;
@@ -15,6 +16,7 @@ mod values;
 use crate::bytes::Bytes;
 use crate::judge::{Reason, Row};
 pub use desks::{desks, DeskCases, LoadCase, ReadCase};
+pub use explaining::{explainings, ExplainCase};
 pub use moving::{movings, MoveCase};
 pub use saying::{sayings, SayCase};
 pub use sending::{sendings, SendCase};
@@ -287,7 +289,8 @@ fn wide_opm() -> Sheet {
 mod tests {
     use super::*;
     use crate::desk::{place, read};
-    use crate::judge::{Answer, Feed};
+    use crate::judge::{explain, Answer, Feed};
+    use crate::mend::Said;
     use crate::say::say;
     use crate::send::send;
     use crate::weigh::weigh;
@@ -309,6 +312,20 @@ mod tests {
         all_differ(sendings().into_iter().map(|case| case.name).collect(), 1_000);
         all_differ(sayings().into_iter().map(|case| case.name).collect(), 1_000);
         all_differ(movings().into_iter().map(|case| case.name).collect(), 400);
+        all_differ(explainings().into_iter().map(|case| case.name).collect(), 1_000);
+    }
+
+    #[test]
+    fn the_explainer_gives_the_answers_written_by_hand() {
+        explainings().iter().for_each(|case| assert_eq!(explain(&case.feed, case.message), case.want, "{}", case.name));
+    }
+
+    #[test]
+    fn the_answers_written_by_hand_have_no_fault_when_mended() {
+        for ExplainCase { name, feed, message, want } in explainings() {
+            let said = Said { bytes: &feed, feed: &Feed::new(&feed), message, explained: want };
+            assert_eq!((said.fault(), said.codes_fault()), (None, None), "{name}");
+        }
     }
 
     #[test]

@@ -9,8 +9,8 @@ use super::{Kind, Reason};
 /// What a line says.
 #[derive(Debug)]
 pub enum What<'f> {
-    /// LONG, BYTE, FORM or KEYWORD: the line itself is wrong.
-    Wrong(Reason),
+    /// LONG, BYTE, FORM or KEYWORD: the line itself is wrong, by these bytes.
+    Wrong(Reason, Cut<'f>),
     Comment(Cut<'f>),
     Mark(u8, Cut<'f>),
     /// A keyword with its value and what stands after a number.
@@ -22,10 +22,11 @@ pub enum What<'f> {
     Data([Cut<'f>; 7]),
 }
 
-/// What a line says, and which line of the message it is, from 1.
+/// What a line says, and which line of the message it is, from 1, with its text.
 #[derive(Debug)]
 pub struct Fact<'f> {
     pub line: usize,
+    pub text: Cut<'f>,
     pub what: What<'f>,
 }
 
@@ -37,8 +38,8 @@ pub fn facts<'f>(kind: Kind, lines: impl Iterator<Item = Cut<'f>>) -> (Vec<Fact<
     for text in lines {
         count += 1;
         let Some(what) = what(kind, text) else { continue };
-        let is_wrong = matches!(what, What::Wrong(_));
-        facts.push(Fact { line: count, what });
+        let is_wrong = matches!(what, What::Wrong(..));
+        facts.push(Fact { line: count, text, what });
         if is_wrong {
             break;
         }
@@ -49,9 +50,9 @@ pub fn facts<'f>(kind: Kind, lines: impl Iterator<Item = Cut<'f>>) -> (Vec<Fact<
 fn what(kind: Kind, line: Cut<'_>) -> Option<What<'_>> {
     Some(match sort(line, kind) {
         Sort::Blank => return None,
-        Sort::Long => What::Wrong(Reason::Long),
-        Sort::Byte => What::Wrong(Reason::Byte),
-        Sort::Formless => What::Wrong(Reason::Form),
+        Sort::Long(past) => What::Wrong(Reason::Long, past),
+        Sort::Byte(byte) => What::Wrong(Reason::Byte, byte),
+        Sort::Formless(text) => What::Wrong(Reason::Form, text),
         Sort::Comment(value) => What::Comment(value),
         Sort::Mark(code, past) => What::Mark(code, past),
         Sort::Data(fields) => What::Data(fields),
@@ -65,7 +66,7 @@ fn assigned<'f>(kind: Kind, keyword: Cut<'f>, field: Cut<'f>) -> What<'f> {
             let (value, rest) = value_and_rest(word, field);
             What::Assigned { word, value, rest }
         }
-        _ => What::Wrong(Reason::Keyword),
+        _ => What::Wrong(Reason::Keyword, keyword),
     }
 }
 
@@ -87,7 +88,7 @@ mod tests {
     }
 
     fn is_wrong(what: Option<What>, reason: Reason) -> bool {
-        matches!(what, Some(What::Wrong(found)) if found == reason)
+        matches!(what, Some(What::Wrong(found, _)) if found == reason)
     }
 
     #[test]

@@ -9,14 +9,39 @@ use super::shape::{is_epoch, is_integer, is_number, is_text, is_version, moment,
 use super::words::{coded, Wanted, Word, CREATION_DATE, DATA_FIELDS, DATA_LINE, META_START, START_TIME, STOP_TIME, TIME_SYSTEM};
 use super::{Kind, Reason};
 
-/// A line of the message and why it offends.
-pub type Fault = (usize, Reason);
+/// A line of the message, why it offends, and which bytes of the feed do.
+/// Of two faults the one at the earlier line is less, then the one with the lesser number, then the one further left.
+#[derive(Clone, Copy, Debug, PartialEq, Eq, PartialOrd, Ord)]
+pub struct Fault {
+    pub line: usize,
+    pub reason: Reason,
+    pub start: usize,
+    pub length: usize,
+}
+
+impl Fault {
+    fn of(fact: &Fact, reason: Reason, bytes: Cut) -> Fault {
+        Fault { line: fact.line, reason, start: bytes.at, length: bytes.text.len() }
+    }
+
+    /// A line that is out of order is so as a whole.
+    fn of_order(fact: &Fact) -> Fault {
+        Fault::of(fact, Reason::Order, fact.text.trimmed())
+    }
+}
+
+/// Where a message ends: the line that would come next, and its place in the feed.
+#[derive(Clone, Copy, Debug)]
+pub struct End {
+    pub line: usize,
+    pub at: usize,
+}
 
 /// The fault to name, if there is any.
-pub fn least(kind: Kind, facts: &[Fact], lines: usize) -> Option<Fault> {
-    let each_line = facts.iter().filter_map(line_fault);
+pub fn least(kind: Kind, facts: &[Fact], end: End) -> Option<Fault> {
+    let each_line = facts.iter().flat_map(line_faults);
     let parted = (0..facts.len()).filter_map(|at| parted_data(facts, at));
-    let order = order_fault(kind, facts, lines);
+    let order = order_fault(kind, facts, end);
     let segments = facts.split(|fact| matches!(fact.what, What::Mark(META_START, _)));
     let times = segments.flat_map(time_faults);
     // Each stretch but the first begins with the naming of a system, and hears of no other.
@@ -25,16 +50,23 @@ pub fn least(kind: Kind, facts: &[Fact], lines: usize) -> Option<Fault> {
     each_line.chain(parted).chain(order).chain(times).chain(sixties).min()
 }
 
-/// What a line shows by itself: wrong in form or keyword, value, or unit.
-fn line_fault(fact: &Fact) -> Option<Fault> {
-    let reason = match &fact.what {
-        What::Wrong(reason) => *reason,
-        What::Assigned { word, value, .. } if !value_stands(word, value) => Reason::Value,
-        What::Assigned { word, rest, .. } if !unit_stands(word, rest) => Reason::Unit,
-        What::Data(fields) if !fields_stand(fields) => Reason::Value,
-        _ => return None,
-    };
-    Some((fact.line, reason))
+/// Whether the last of these facts would be out of order, whatever else is said of it.
+pub fn is_last_out_of_order(kind: Kind, facts: &[Fact]) -> bool {
+    let Some((last, at)) = facts.last().zip(facts.len().checked_sub(1)) else { return false };
+    let order = order_fault(kind, facts, End { line: last.line + 1, at: 0 });
+    parted_data(facts, at).into_iter().chain(order).any(|fault| fault == Fault::of_order(last))
+}
+
+/// What a line shows by itself: wrong in form or keyword, value, or unit. A data line may be wrong in each of its fields.
+fn line_faults(fact: &Fact) -> Vec<Fault> {
+    let fault = |reason, bytes: &Cut| Fault::of(fact, reason, *bytes);
+    match &fact.what {
+        What::Wrong(reason, bytes) => vec![fault(*reason, bytes)],
+        What::Assigned { word, value, .. } if !value_stands(word, value) => vec![fault(Reason::Value, value)],
+        What::Assigned { word, rest, .. } if !unit_stands(word, rest) => vec![fault(Reason::Unit, rest)],
+        What::Data(fields) => fallen_fields(fields).map(|field| fault(Reason::Value, field)).collect(),
+        _ => Vec::new(),
+    }
 }
 
 fn value_stands(word: &Word, value: &Cut) -> bool {
@@ -56,8 +88,8 @@ fn unit_stands(word: &Word, rest: &Cut) -> bool {
     }
 }
 
-fn fields_stand(fields: &[Cut; 7]) -> bool {
-    DATA_FIELDS.iter().zip(fields).all(|(code, field)| value_stands(coded((*code).into()), field))
+fn fallen_fields<'a, 'f>(fields: &'a [Cut<'f>; 7]) -> impl Iterator<Item = &'a Cut<'f>> {
+    DATA_FIELDS.iter().zip(fields).filter(|(code, field)| !value_stands(coded((**code).into()), field)).map(|(_, field)| field)
 }
 
 /// VALUE for every second 60 in a stretch of facts that does not begin by naming UTC.
@@ -66,8 +98,9 @@ fn sixty_faults(stretch: &[Fact]) -> Vec<Fault> {
     if stretch.first().and_then(system_named) == Some(b"UTC") {
         return Vec::new();
     }
-    let sixties = stretch.iter().filter(|fact| told_in_system(fact).is_some_and(|moment| moment.is_at_second_60()));
-    sixties.map(|fact| (fact.line, Reason::Value)).collect()
+    let told = stretch.iter().filter_map(|fact| told_in_system(fact).map(|epoch| (fact, epoch)));
+    let sixties = told.filter(|(_, epoch)| moment(epoch.text).is_some_and(|moment| moment.is_at_second_60()));
+    sixties.map(|(fact, epoch)| Fault::of(fact, Reason::Value, epoch)).collect()
 }
 
 /// The time system that a fact names, if it names one.
@@ -79,10 +112,10 @@ fn system_named<'f>(fact: &Fact<'f>) -> Option<&'f [u8]> {
 }
 
 /// The epoch of a fact, if it is one that the time system speaks of; a creation date isn't.
-fn told_in_system(fact: &Fact) -> Option<Moment> {
+fn told_in_system<'f>(fact: &Fact<'f>) -> Option<Cut<'f>> {
     match &fact.what {
-        What::Assigned { word, value, .. } if word.wanted == Wanted::Epoch && word.code != CREATION_DATE => moment(value.text),
-        What::Data(fields) => moment(fields[0].text),
+        What::Assigned { word, value, .. } if word.wanted == Wanted::Epoch && word.code != CREATION_DATE => Some(*value),
+        What::Data(fields) => Some(fields[0]),
         _ => None,
     }
 }
@@ -95,17 +128,17 @@ fn parted_data(facts: &[Fact], at: usize) -> Option<Fault> {
     let comments = facts[..at].iter().rev().take_while(|fact| matches!(fact.what, What::Comment(_))).count();
     let before = facts[..at - comments].last()?;
     let parted = comments > 0 && matches!(before.what, What::Data(_));
-    parted.then_some((facts[at].line, Reason::Order))
+    parted.then(|| Fault::of_order(&facts[at]))
 }
 
 /// ORDER at the first code out of place, or SHORT after the last line.
-fn order_fault(kind: Kind, facts: &[Fact], lines: usize) -> Option<Fault> {
-    let placed: Vec<(usize, u8)> = facts.iter().filter_map(|fact| order_code(fact).map(|code| (fact.line, code))).collect();
+fn order_fault(kind: Kind, facts: &[Fact], end: End) -> Option<Fault> {
+    let placed: Vec<(&Fact, u8)> = facts.iter().filter_map(|fact| order_code(fact).map(|code| (fact, code))).collect();
     let codes: Vec<u8> = placed.iter().map(|(_, code)| *code).collect();
     match fit(kind, &codes) {
         Fit::Whole => None,
-        Fit::Misfit(at) => Some((placed[at].0, Reason::Order)),
-        Fit::Unfinished => Some((lines + 1, Reason::Short)),
+        Fit::Misfit(at) => Some(Fault::of_order(placed[at].0)),
+        Fit::Unfinished => Some(Fault { line: end.line, reason: Reason::Short, start: end.at, length: 0 }),
     }
 }
 
@@ -115,14 +148,15 @@ fn order_code(fact: &Fact) -> Option<u8> {
         What::Mark(code, _) => Some(*code),
         What::Assigned { word, .. } => Some(word.code),
         What::Data(_) => Some(DATA_LINE),
-        What::Wrong(_) | What::Comment(_) => None,
+        What::Wrong(..) | What::Comment(_) => None,
     }
 }
 
-/// An epoch that can be read, with its line and code.
-struct Stamp {
-    line: usize,
+/// An epoch that can be read, with the fact that tells it and its code.
+struct Stamp<'a, 'f> {
+    fact: &'a Fact<'f>,
     code: u8,
+    epoch: Cut<'f>,
     moment: Moment,
 }
 
@@ -130,31 +164,33 @@ struct Stamp {
 fn time_faults(segment: &[Fact]) -> Vec<Fault> {
     let bounds: Vec<Stamp> = segment.iter().filter_map(bound_stamp).collect();
     let data: Vec<Stamp> = segment.iter().filter_map(data_stamp).collect();
-    let falling = bounds.windows(2).filter(|pair| pair[1].moment < pair[0].moment).map(|pair| pair[1].line);
-    let stalling = data.windows(2).filter(|pair| pair[1].moment <= pair[0].moment).map(|pair| pair[1].line);
-    let outside = data.iter().filter(|stamp| is_outside(&bounds, stamp)).map(|stamp| stamp.line);
-    falling.chain(stalling).chain(outside).map(|line| (line, Reason::TimeOrder)).collect()
+    let falling = bounds.windows(2).filter(|pair| pair[1].moment < pair[0].moment).map(|pair| &pair[1]);
+    let stalling = data.windows(2).filter(|pair| pair[1].moment <= pair[0].moment).map(|pair| &pair[1]);
+    let outside = data.iter().filter(|stamp| is_outside(&bounds, stamp));
+    falling.chain(stalling).chain(outside).map(|stamp| Fault::of(stamp.fact, Reason::TimeOrder, stamp.epoch)).collect()
 }
 
-fn bound_stamp(fact: &Fact) -> Option<Stamp> {
+fn bound_stamp<'a, 'f>(fact: &'a Fact<'f>) -> Option<Stamp<'a, 'f>> {
     match &fact.what {
-        What::Assigned { word, value, .. } if (START_TIME..=STOP_TIME).contains(&word.code) => {
-            moment(value.text).map(|moment| Stamp { line: fact.line, code: word.code, moment })
-        }
+        What::Assigned { word, value, .. } if (START_TIME..=STOP_TIME).contains(&word.code) => stamp(fact, word.code, *value),
         _ => None,
     }
 }
 
-fn data_stamp(fact: &Fact) -> Option<Stamp> {
+fn data_stamp<'a, 'f>(fact: &'a Fact<'f>) -> Option<Stamp<'a, 'f>> {
     match &fact.what {
-        What::Data(fields) => moment(fields[0].text).map(|moment| Stamp { line: fact.line, code: DATA_LINE, moment }),
+        What::Data(fields) => stamp(fact, DATA_LINE, fields[0]),
         _ => None,
     }
+}
+
+fn stamp<'a, 'f>(fact: &'a Fact<'f>, code: u8, epoch: Cut<'f>) -> Option<Stamp<'a, 'f>> {
+    moment(epoch.text).map(|moment| Stamp { fact, code, epoch, moment })
 }
 
 /// Whether a data epoch lies outside the bounds given before it; a bound after it is ORDER on its own line.
 fn is_outside(bounds: &[Stamp], data: &Stamp) -> bool {
-    bounds.iter().filter(|bound| bound.line < data.line).any(|bound| match bound.code {
+    bounds.iter().filter(|bound| bound.fact.line < data.fact.line).any(|bound| match bound.code {
         START_TIME => data.moment < bound.moment,
         STOP_TIME => data.moment > bound.moment,
         _ => false,
@@ -167,9 +203,18 @@ mod tests {
     use super::super::facts::facts;
     use super::*;
 
-    fn oem(text: &str) -> Option<Fault> {
+    fn whole(text: &str) -> Option<Fault> {
         let (facts, count) = facts(Kind::Oem, lines(Cut { at: 0, text: text.as_bytes() }));
-        least(Kind::Oem, &facts, count)
+        least(Kind::Oem, &facts, End { line: count + 1, at: text.len() })
+    }
+
+    fn oem(text: &str) -> Option<(usize, Reason)> {
+        whole(text).map(|fault| (fault.line, fault.reason))
+    }
+
+    /// The bytes of the fault to name.
+    fn bytes(text: &str) -> Option<&str> {
+        whole(text).map(|fault| &text[fault.start..][..fault.length])
     }
 
     const HEAD: &str = "CCSDS_OEM_VERS=1.0\nCREATION_DATE=2000-001T00:00:00\nORIGINATOR=a\nMETA_START\nOBJECT_NAME=a\nOBJECT_ID=a\nCENTER_NAME=a\nREF_FRAME=a\nTIME_SYSTEM=a\nSTART_TIME=2000-001T00:00:00\nSTOP_TIME=2000-01-02T00:00:00\nMETA_STOP\n";
@@ -186,6 +231,18 @@ mod tests {
         assert_eq!(oem(&format!("{HEAD}{NEXT}{FIRST}x\n")), Some((14, Reason::TimeOrder)));
         assert_eq!(oem(&format!("{HEAD}2000-003T00:00:00 1 2 3 4 5 .6\n")), Some((13, Reason::Value)));
         assert_eq!(oem(&format!("{HEAD}2000-003T00:00:00 1 2 3 4 5 6\n")), Some((13, Reason::TimeOrder)));
+    }
+
+    #[test]
+    fn a_fault_knows_its_bytes() {
+        let data = |line: &str| format!("{HEAD}{line}\n");
+        assert_eq!(bytes(&data("  2000-001T00:00:00 1 .2 3 .4 5 6 ")), Some(".2"));
+        assert_eq!(bytes(&data("2000-001T23:59:60 1 .2 3 .4 5 6")), Some("2000-001T23:59:60"));
+        assert_eq!(bytes(&data(" 2000-003T00:00:00  1 2 3 4 5 6")), Some("2000-003T00:00:00"));
+        assert_eq!(bytes(&data("  nonsense x ")), Some("nonsense x"));
+        assert_eq!(bytes(&format!("{HEAD}{FIRST}COMMENT\n  1  2 3 4 5 6 7 \n")), Some("1  2 3 4 5 6 7"));
+        assert_eq!(bytes(&HEAD.replace("STOP_TIME=2000-01-02", " STOP_TIME = 1999-01-02")), Some("1999-01-02T00:00:00"));
+        assert_eq!(whole(HEAD), Some(Fault { line: 13, reason: Reason::Short, start: HEAD.len(), length: 0 }));
     }
 
     #[test]

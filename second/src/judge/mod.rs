@@ -1,7 +1,9 @@
 //! The judgement of document 01, by lists: the feed into lines, a message's lines into facts, the facts into faults.
-//! A fault is a line with a reason, and the least one is the answer, since the reasons' numbers follow the order of checks.
+//! A fault is a line with a reason and the bytes that offend, and the least one is the answer, since the reasons' numbers follow the order of
+//! checks.
 
 mod cut;
+mod explain;
 mod facts;
 mod faults;
 mod order;
@@ -11,9 +13,13 @@ mod sort;
 mod words;
 
 pub use cut::{is_heading, Cut};
+pub use explain::{Explained, MOST_CODES};
 pub use rows::Row;
 pub use shape::{is_leap, is_number};
 pub use words::{coded, Wanted};
+
+use facts::Fact;
+use faults::End;
 
 /// A feed has at most this many bytes.
 pub const FEED_LIMIT: usize = 16_777_215;
@@ -126,6 +132,17 @@ impl<'f> Feed<'f> {
         }
     }
 
+    /// Why the message with this number is refused, if it is.
+    pub fn explain(&self, message: u64) -> Explained {
+        if self.too_long {
+            return Explained::refused(Reason::FeedLong);
+        }
+        match self.message(message) {
+            None => Explained::refused(Reason::NoMessage),
+            Some((kind, text)) => explain::explain(kind, text),
+        }
+    }
+
     /// Where a line of a message stands; the line's number is from 1.
     pub fn place(&self, message: u64, line: usize) -> Option<Place> {
         let (_, text) = self.message(message)?;
@@ -157,16 +174,27 @@ pub struct Place {
 
 /// The least fault of a message, or its rows.
 fn decide(kind: Kind, text: Cut) -> Answer {
-    let (facts, lines) = facts::facts(kind, cut::lines(text));
-    match faults::least(kind, &facts, lines) {
-        Some((line, reason)) => Answer::Refused { reason, line },
+    let (facts, end) = hear(kind, text);
+    match faults::least(kind, &facts, end) {
+        Some(fault) => Answer::Refused { reason: fault.reason, line: fault.line },
         None => Answer::Accepted(rows::rows(&facts)),
     }
+}
+
+/// What a message says, and where it ends.
+fn hear(kind: Kind, text: Cut<'_>) -> (Vec<Fact<'_>>, End) {
+    let (facts, lines) = facts::facts(kind, cut::lines(text));
+    (facts, End { line: lines + 1, at: text.at + text.text.len() })
 }
 
 /// How many headings a feed has, or FEED_LONG.
 pub fn headings(feed: &[u8]) -> Result<usize, Reason> {
     Feed::new(feed).headings()
+}
+
+/// Why one message of a feed is refused, if it is.
+pub fn explain(feed: &[u8], message: u64) -> Explained {
+    Feed::new(feed).explain(message)
 }
 
 /// The judgement of one message of a feed.

@@ -30,7 +30,7 @@ pub fn rows(facts: &[Fact]) -> Vec<Row> {
 
 fn coded_values<'f>(fact: &Fact<'f>) -> Vec<(u8, Cut<'f>)> {
     match &fact.what {
-        What::Wrong(_) => Vec::new(),
+        What::Wrong(..) => Vec::new(),
         What::Comment(value) => vec![(COMMENT, *value)],
         What::Mark(code, past) => vec![(*code, *past)],
         What::Assigned { word, value, .. } => vec![(word.code, *value)],

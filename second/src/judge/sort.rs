@@ -7,18 +7,22 @@ use super::Kind;
 /// What a line is, with the parts that matter.
 #[derive(Clone, Debug, PartialEq, Eq)]
 pub enum Sort<'f> {
-    Long,
-    Byte,
+    /// With the text past what a line may have.
+    Long(Cut<'f>),
+    /// With the first byte that may not stand in a line.
+    Byte(Cut<'f>),
     Blank,
     Comment(Cut<'f>),
     /// META_START or META_STOP, with the empty part just past the word.
     Mark(u8, Cut<'f>),
+    /// An empty keyword lies at the sign, an empty field just past it.
     Assignment {
         keyword: Cut<'f>,
         field: Cut<'f>,
     },
     Data([Cut<'f>; 7]),
-    Formless,
+    /// With the trimmed line.
+    Formless(Cut<'f>),
 }
 
 /// A line's text is at most this many bytes.
@@ -29,15 +33,16 @@ const TESTS: [fn(Cut<'_>, Kind) -> Option<Sort<'_>>; 7] = [long, byte, blank, co
 
 /// What the line is in a message of this type.
 pub fn sort(line: Cut<'_>, kind: Kind) -> Sort<'_> {
-    TESTS.iter().find_map(|test| test(line, kind)).unwrap_or(Sort::Formless)
+    TESTS.iter().find_map(|test| test(line, kind)).unwrap_or_else(|| Sort::Formless(line.trimmed()))
 }
 
 fn long(line: Cut<'_>, _: Kind) -> Option<Sort<'_>> {
-    (line.text.len() > TEXT_LIMIT).then_some(Sort::Long)
+    (line.text.len() > TEXT_LIMIT).then(|| Sort::Long(line.part(TEXT_LIMIT, line.text.len())))
 }
 
 fn byte(line: Cut<'_>, _: Kind) -> Option<Sort<'_>> {
-    line.text.iter().any(|b| !(32..=126).contains(b)).then_some(Sort::Byte)
+    let at = line.text.iter().position(|b| !(32..=126).contains(b))?;
+    Some(Sort::Byte(line.part(at, at + 1)))
 }
 
 fn blank(line: Cut<'_>, _: Kind) -> Option<Sort<'_>> {
@@ -64,8 +69,10 @@ fn mark(line: Cut<'_>, kind: Kind) -> Option<Sort<'_>> {
 }
 
 fn assignment(line: Cut<'_>, _: Kind) -> Option<Sort<'_>> {
-    let (keyword, field) = line.parted(b'=')?;
-    Some(Sort::Assignment { keyword: keyword.trimmed(), field: field.trimmed() })
+    let (before, after) = line.parted(b'=')?;
+    // Of blanks alone `trimmed` keeps the front, which is right for a field, but a keyword lies at the sign then.
+    let keyword = Some(before.trimmed()).filter(|word| !word.text.is_empty()).unwrap_or(before.part(before.text.len(), before.text.len()));
+    Some(Sort::Assignment { keyword, field: after.trimmed() })
 }
 
 fn data(line: Cut<'_>, kind: Kind) -> Option<Sort<'_>> {
@@ -104,12 +111,13 @@ mod tests {
     #[test]
     fn long_comes_before_byte_and_byte_before_the_rest() {
         assert_eq!(oem(&[b' '; 254]), Sort::Blank);
-        assert_eq!(oem(&[b' '; 255]), Sort::Long);
-        assert_eq!(oem(&[0; 255]), Sort::Long);
+        assert_eq!(oem(&[b' '; 255]), Sort::Long(Cut { at: 354, text: b" " }));
+        assert_eq!(oem(&[0; 256]), Sort::Long(Cut { at: 354, text: &[0, 0] }));
         for bad in [0, 9, 31, 127, 128, 255] {
-            assert_eq!(oem(&[b'C', bad]), Sort::Byte);
+            assert_eq!(oem(&[b'C', bad, bad]), Sort::Byte(Cut { at: 101, text: &[bad] }));
         }
-        assert_eq!(oem(b"~ ~"), Sort::Formless);
+        assert_eq!(oem(b"~ ~"), Sort::Formless(line(b"~ ~")));
+        assert_eq!(oem(b"  ~ ~ "), Sort::Formless(Cut { at: 102, text: b"~ ~" }));
     }
 
     #[test]
@@ -118,16 +126,16 @@ mod tests {
         assert_eq!(opm(b"  COMMENT   "), Sort::Comment(Cut { at: 109, text: b"" }));
         assert_eq!(opm(b"COMMENT  a = b  "), Sort::Comment(Cut { at: 109, text: b"a = b" }));
         assert!(matches!(opm(b"COMMENT=a"), Sort::Assignment { .. }));
-        assert_eq!(opm(b"COMMENTS a"), Sort::Formless);
-        assert_eq!(opm(b"comment a"), Sort::Formless);
+        assert_eq!(opm(b"COMMENTS a"), Sort::Formless(line(b"COMMENTS a")));
+        assert_eq!(opm(b"comment a"), Sort::Formless(line(b"comment a")));
     }
 
     #[test]
     fn marks_stand_alone_in_an_oem() {
         assert_eq!(oem(b" META_START "), Sort::Mark(37, Cut { at: 111, text: b"" }));
         assert_eq!(oem(b"META_STOP"), Sort::Mark(44, Cut { at: 109, text: b"" }));
-        assert_eq!(opm(b"META_START"), Sort::Formless);
-        assert_eq!(oem(b"META_START x"), Sort::Formless);
+        assert_eq!(opm(b"META_START"), Sort::Formless(line(b"META_START")));
+        assert_eq!(oem(b"META_START x"), Sort::Formless(line(b"META_START x")));
         assert!(matches!(oem(b"META_START ="), Sort::Assignment { .. }));
     }
 
@@ -135,14 +143,18 @@ mod tests {
     fn an_assignment_parts_at_the_first_sign() {
         let Sort::Assignment { keyword, field } = opm(b" A B = c = d ") else { panic!("no assignment") };
         assert_eq!((keyword.text, field.text, field.at), (&b"A B"[..], &b"c = d"[..], 107));
+        let Sort::Assignment { keyword, field } = opm(b"   =   ") else { panic!("no assignment") };
+        assert_eq!((keyword, field), (Cut { at: 103, text: b"" }, Cut { at: 104, text: b"" }));
+        let Sort::Assignment { keyword, field } = opm(b"=") else { panic!("no assignment") };
+        assert_eq!((keyword, field), (Cut { at: 100, text: b"" }, Cut { at: 101, text: b"" }));
     }
 
     #[test]
     fn seven_fields_are_data_in_an_oem_alone() {
         assert!(matches!(oem(b"  a b  c d e f g "), Sort::Data(_)));
-        assert_eq!(oem(b"a b c d e f"), Sort::Formless);
-        assert_eq!(oem(b"a b c d e f g h"), Sort::Formless);
-        assert_eq!(opm(b"a b c d e f g"), Sort::Formless);
+        assert!(matches!(oem(b"a b c d e f"), Sort::Formless(_)));
+        assert!(matches!(oem(b"a b c d e f g h"), Sort::Formless(_)));
+        assert!(matches!(opm(b"a b c d e f g"), Sort::Formless(_)));
         assert!(matches!(oem(b"a b c d e f ="), Sort::Assignment { .. }));
     }
 }

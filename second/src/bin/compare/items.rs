@@ -1,12 +1,14 @@
-//! What is asked: fixed cases, generated feeds, sessions, writings, texts and tables, each with what is known of the answer beforehand.
+//! What is asked: fixed cases, generated feeds, explanations, sessions, writings, texts and tables, each with what is known of the answer beforehand.
 
+use crate::explaining::Explaining;
+use second::aims::{aimed, Aimed};
 use second::bytes::Bytes;
-use second::cases::{Case, DeskCases, MoveCase, SayCase, SendCase, Want};
+use second::cases::{Case, DeskCases, ExplainCase, MoveCase, SayCase, SendCase, Want};
 use second::desk::{Heard, Load, Placed, Reading};
 use second::dice::Dice;
 use second::face::{Face, Requests};
 use second::harm::{fill, harm_bytes, harm_draft};
-use second::judge::{Feed, Reason, Row, FEED_LIMIT};
+use second::judge::{Explained, Feed, Reason, Row, FEED_LIMIT};
 use second::make::{draft, lengthen, sent, write, Draft, Written};
 use second::movings::{any_tables, Round, Tables, Told};
 use second::sayings::{any_spoken, Spoken};
@@ -18,9 +20,35 @@ use std::rc::Rc;
 /// So many in a hundred generated feeds begin a session on a desk.
 const SESSIONS: usize = 50;
 
-/// The turns of texts begin after those of any feeds, and those of tables after both, so that all have dice of their own.
+/// The turns of texts begin after those of any feeds, then those of tables and of explanations, so that all have dice of their own.
 const TEXT_TURNS: u64 = 1 << 40;
 const TABLE_TURNS: u64 = 1 << 41;
+const EXPLAIN_TURNS: u64 = 1 << 42;
+
+/// So many in a hundred messages are explained, the first of a feed always.
+const EXPLAINED: usize = 33;
+
+/// So many in a hundred feeds whose messages are explained have a made line of every code tried.
+const BY_CODES: usize = 25;
+
+/// Which reasons are aimed at, one each turn: those that show more come more often.
+const AIMS: [Reason; 15] = [
+    Reason::Long,
+    Reason::Order,
+    Reason::Short,
+    Reason::Byte,
+    Reason::Value,
+    Reason::Form,
+    Reason::Order,
+    Reason::Short,
+    Reason::Keyword,
+    Reason::Value,
+    Reason::Unit,
+    Reason::Order,
+    Reason::Short,
+    Reason::TimeOrder,
+    Reason::Value,
+];
 
 /// One in so many feeds is long: it has more lines or rows than 16 bits count.
 const LONG_EVERY: usize = 1_000;
@@ -45,6 +73,7 @@ pub struct Item {
 /// A call on the face, or a few, with what must be answered if that is known without judge, desk, writer or sayer.
 pub enum Ask {
     Judge(Judging),
+    Explain(Explaining),
     Load(Load, Placed),
     Read(Reading, Vec<Option<Heard>>),
     Write(Writing),
@@ -78,6 +107,7 @@ impl Item {
     pub fn parts(&self) -> Vec<(&'static str, &[u8])> {
         match &self.ask {
             Ask::Judge(judging) => vec![("feed", &judging.feed)],
+            Ask::Explain(explaining) => vec![("feed", &explaining.feed)],
             Ask::Load(load, _) => vec![("feed", &load.feed), ("table", &load.table)],
             Ask::Read(reading, _) => vec![("feed", &reading.feed), ("table", &reading.table)],
             Ask::Write(writing) => vec![("feed", &writing.sending.feed), ("buffer", &writing.sending.buffer)],
@@ -93,6 +123,7 @@ impl Item {
     pub fn add_to(&self, requests: &mut Requests) {
         match &self.ask {
             Ask::Judge(judging) => requests.add_judge(&judging.feed, &judging.messages),
+            Ask::Explain(explaining) => requests.add_explain(&explaining.feed, &explaining.messages),
             Ask::Load(load, _) => requests.add_place(load),
             Ask::Read(reading, _) => requests.add_read(reading),
             Ask::Write(writing) => requests.add_write(&writing.sending),
@@ -116,6 +147,7 @@ impl Item {
     pub fn is_answered_by(&self, face: &mut Face) -> bool {
         match &self.ask {
             Ask::Judge(judging) => face.next_judged(judging.messages.len()).is_ok(),
+            Ask::Explain(explaining) => face.next_explained(explaining.messages.len()).is_ok(),
             Ask::Load(load, _) => face.next_placed(load).is_ok(),
             Ask::Read(reading, _) => face.next_read(reading).is_ok(),
             Ask::Write(writing) => face.next_sent(&writing.sending).is_ok(),
@@ -140,7 +172,7 @@ fn fixed(name: &str, ask: Ask) -> Item {
     Item { name: format!("fixed case: {name}"), generated: false, ask }
 }
 
-/// A case's message to be judged and written and, if it goes out, loaded and written again.
+/// A case's message to be judged, explained and written and, if it goes out, loaded and written again.
 pub fn case_items(case: Case) -> Vec<Item> {
     let Case { name, feed, headings, message, want, only_judged } = case;
     let judging = Judging { feed: feed.clone(), messages: vec![message], known: Known::Case { headings, want: want.clone() } };
@@ -148,6 +180,8 @@ pub fn case_items(case: Case) -> Vec<Item> {
     if only_judged {
         return vec![judged];
     }
+    let explaining = Explaining { feed: feed.clone(), messages: vec![message], known: vec![None], by_codes: false };
+    let explained = fixed(&format!("{name}, explained"), Ask::Explain(explaining));
     let letter = Rc::new(Letter::new(&feed, &Feed::new(&feed), message));
     let buffer = vec![255; letter.outgoing.as_ref().map_or(50, |text| text.len() + 1)];
     let refused = match want {
@@ -156,7 +190,12 @@ pub fn case_items(case: Case) -> Vec<Item> {
     };
     let again = letter.again(|size| vec![255; size]).map(|again| fixed(&format!("{name}, loaded again"), Ask::Again(again)));
     let written = fixed(&format!("{name}, written"), Ask::Write(letter.into_buffer(buffer, refused)));
-    [judged, written].into_iter().chain(again).collect()
+    [judged, explained, written].into_iter().chain(again).collect()
+}
+
+pub fn explain_item(case: ExplainCase) -> Item {
+    let ExplainCase { name, feed, message, want } = case;
+    fixed(&name, Ask::Explain(Explaining { feed, messages: vec![message], known: vec![Some(want)], by_codes: true }))
 }
 
 pub fn send_item(case: SendCase) -> Item {
@@ -181,7 +220,8 @@ pub fn desk_items(cases: DeskCases) -> Vec<Item> {
     loads.chain(reads).collect()
 }
 
-/// What one turn of a seed brings: a feed, often a session that begins with it, and writings of its messages.
+/// What one turn of a seed brings: a feed, explanations of its messages, often a session that begins with it, writings of its messages, and a feed
+/// with one message to be explained that is wrong by a reason aimed at.
 pub fn generated_items(seed: u64, turn: usize) -> Vec<Item> {
     let mut dice = Dice::new(seed, turn as u64);
     let is_greatest = turn % GREATEST_EVERY == GREATEST_AT;
@@ -193,11 +233,14 @@ pub fn generated_items(seed: u64, turn: usize) -> Vec<Item> {
     let messages = asked(&feed, &mut dice);
     let name = format!("generated feed {turn} of seed {seed}");
     let item = |more: String, ask| Item { name: format!("{name}{more}"), generated: true, ask };
+    let mut luck = Dice::new(seed, EXPLAIN_TURNS + turn as u64);
+    let explaining = some_explained(&feed, &messages, &known, &mut luck);
     let judging = Ask::Judge(Judging { feed: feed.clone(), messages: messages.clone(), known });
     let mut items = vec![item(String::new(), judging)];
     if is_greatest {
         return items;
     }
+    items.push(item(", explained".to_string(), Ask::Explain(explaining)));
     if dice.percent(SESSIONS) {
         let mut feeds = vec![feed.clone()];
         feeds.extend((0..dice.below(3)).map(|_| any_feed(&mut dice).feed));
@@ -210,7 +253,29 @@ pub fn generated_items(seed: u64, turn: usize) -> Vec<Item> {
     let (writings, agains) = writings(&feed, &messages, texts.as_deref(), &mut dice);
     items.extend((1..).zip(writings).map(|(at, writing)| item(format!(", writing {at}"), Ask::Write(writing))));
     items.extend((1..).zip(agains).map(|(at, again)| item(format!(", output {at} loaded again"), Ask::Again(again))));
+    let reason = AIMS[turn % AIMS.len()];
+    items.push(item(format!(", another with {}, explained", reason.name()), Ask::Explain(aimed_at(reason, &mut luck))));
     items
+}
+
+/// The first of these messages of a feed and some of the others; of a sound feed it is known what must be said.
+fn some_explained(feed: &Bytes, messages: &[u64], known: &Known, dice: &mut Dice) -> Explaining {
+    let some: Vec<u64> =
+        messages.iter().enumerate().filter(|(at, _)| *at == 0 || dice.percent(EXPLAINED)).map(|(_, message)| *message).collect();
+    let due = |message: &u64| match known {
+        Known::Rows(rows) => {
+            let own = (1..).zip(rows).find(|(number, _)| number == message);
+            Some(own.map_or(Explained::refused(Reason::NoMessage), |(_, rows)| Explained::accepted(rows.len())))
+        }
+        _ => None,
+    };
+    Explaining { feed: feed.clone(), known: some.iter().map(due).collect(), messages: some, by_codes: dice.percent(BY_CODES) }
+}
+
+/// A message that is wrong by this reason; what must be said of it is known.
+fn aimed_at(reason: Reason, dice: &mut Dice) -> Explaining {
+    let Aimed { feed, message, known } = aimed(reason, dice);
+    Explaining { feed, messages: vec![message], known: vec![Some(known)], by_codes: dice.percent(BY_CODES) }
 }
 
 /// The text that one turn of a seed brings.
@@ -269,7 +334,7 @@ fn any_feed(dice: &mut Dice) -> Made {
 
 /// What is written of a draft and, if it is sound, foretold.
 fn made(sketch: &Draft, sound: bool, dice: &mut Dice) -> Made {
-    let Written { mut feed, rows } = write(sketch, dice);
+    let Written { mut feed, rows, .. } = write(sketch, dice);
     if !sound {
         (0..dice.pick(&[0, 0, 0, 1, 2])).for_each(|_| harm_bytes(&mut feed, dice));
     }

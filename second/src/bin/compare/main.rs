@@ -1,9 +1,11 @@
-//! Runs the second judge, desk, writer, sayer and mover beside the product's C face, on fixed cases and on generated feeds, texts and tables, and
-//! names every difference.
+//! Runs the second judge, explainer, desk, writer, sayer and mover beside the product's C face, on fixed cases and on generated feeds, texts and
+//! tables, and names every difference.
 
 mod again;
+mod blames;
 mod degrees;
 mod desks;
+mod explaining;
 mod items;
 mod judging;
 mod moving;
@@ -17,7 +19,9 @@ mod tally;
 mod widths;
 mod words;
 
-use items::{case_items, desk_items, generated_items, generated_tables, generated_text, move_item, say_item, send_item, Ask, Item};
+use items::{
+    case_items, desk_items, explain_item, generated_items, generated_tables, generated_text, move_item, say_item, send_item, Ask, Item,
+};
 use second::cases;
 use second::face::{Face, Requests};
 use std::process::ExitCode;
@@ -26,8 +30,8 @@ use tally::{Tally, FLOOR_FEEDS, FLOOR_TABLES, FLOOR_TEXTS};
 
 const HELP: &str = "\
 compare --self [--seed N] [--feeds N] [--texts N] [--tables N]
-    runs the second program alone: fixed cases against their answers, sound feeds, calls on a desk, writings, texts and tables against what is
-    foretold
+    runs the second program alone: fixed cases against their answers, sound feeds, calls on a desk, writings, explanations, texts and tables
+    against what is foretold
 compare [--seed N] [--feeds N] [--texts N] [--tables N] --face COMMAND...
     runs it beside the product's C face; everything after --face is the command that starts the face";
 
@@ -97,11 +101,12 @@ fn number(arguments: &[String], at: &mut usize) -> Result<u64, String> {
 
 fn run(options: &Options) -> Result<bool, String> {
     let (fixed, desks, sendings, sayings, movings) = (cases::all(), cases::desks(), cases::sendings(), cases::sayings(), cases::movings());
+    let explainings = cases::explainings();
     let mut progress = Progress { last: Instant::now(), feeds: fixed.len() + options.feeds, texts: sayings.len() + options.texts };
     println!("seed {}", options.seed);
     let of_desks = format!("{} of loads, {} of tickets", desks.loads.len(), desks.reads.len());
     let of_others = format!("{} of writings, {} of sayings, {} of widenings and narrowings", sendings.len(), sayings.len(), movings.len());
-    println!("{} fixed cases of judging, {of_desks}, {of_others}", fixed.len());
+    println!("{} fixed cases of judging, {} of explanations, {of_desks}, {of_others}", fixed.len(), explainings.len());
     println!("{} generated feeds", options.feeds);
     println!("{} generated texts", options.texts);
     println!("{} generated turns of tables", options.tables);
@@ -109,7 +114,7 @@ fn run(options: &Options) -> Result<bool, String> {
     let mut tally = Tally::new();
     let judged = fixed.into_iter().flat_map(case_items);
     let others = desk_items(desks).into_iter().chain(sendings.into_iter().map(send_item)).chain(sayings.into_iter().map(say_item));
-    let others = others.chain(movings.into_iter().map(move_item));
+    let others = others.chain(movings.into_iter().map(move_item)).chain(explainings.into_iter().map(explain_item));
     let feeds = (0..options.feeds).flat_map(|turn| generated_items(options.seed, turn));
     let texts = (0..options.texts).map(|turn| generated_text(options.seed, turn));
     let tables = (0..options.tables).map(|turn| generated_tables(options.seed, turn));
@@ -203,6 +208,7 @@ impl Progress {
 fn compare(item: &Item, face: Option<&mut Face>, tally: &mut Tally) -> Result<(), String> {
     let facts = match &item.ask {
         Ask::Judge(judging) => judging::compare_judged(judging, item.generated, face, tally),
+        Ask::Explain(explaining) => explaining::compare_explained(explaining, item.generated, face, tally),
         Ask::Load(load, known) => desks::compare_load(load, known, item.generated, face, tally),
         Ask::Read(reading, known) => desks::compare_read(reading, known, item.generated, face, tally),
         Ask::Write(writing) => sending::compare_sent(writing, item.generated, face, tally),

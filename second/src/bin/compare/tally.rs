@@ -1,5 +1,6 @@
 //! What has been counted, what it says at the end, and what is kept of a difference.
 
+use crate::blames::{blames, listed, Blames, Listed};
 use crate::degrees::{degrees, Degrees};
 use crate::items::Item;
 use crate::outputs::{outputs, Outputs};
@@ -11,9 +12,13 @@ use second::desk::{reason_name, NO_ROOM, PLACES, TOO_BIG, WIDE};
 use second::judge::Reason;
 use std::path::{Path, PathBuf};
 
-/// Each 20,000 generated feeds must bring every reason, every case of second 60 and of degrees, and everything that writings can show, this often.
+/// Each 20,000 generated feeds must bring every reason, every case of second 60 and of degrees, and everything that writings and explanations can
+/// show, this often.
 const FLOOR: usize = 100;
 pub const FLOOR_FEEDS: usize = 20_000;
+
+/// An explanation with a line must come so many times as often, for every reason.
+const EXPLAINED_TIMES: usize = 10;
 
 /// The same for each 120,000 generated texts, the reasons of sayings and everything that they can show.
 pub const FLOOR_TEXTS: usize = 120_000;
@@ -47,13 +52,21 @@ impl Counts {
         rare(self.what, self.named(), floor)
     }
 
+    /// The good answer too has this floor here, and a reason with a line a higher one.
+    fn rare_explained(&self, floor: usize) -> Vec<String> {
+        let has_line = |name: &&str| !["FEED_LONG", "NO_MESSAGE"].contains(name);
+        let (high, low): (Vec<_>, Vec<_>) = self.named().partition(|(name, _)| has_line(name));
+        let low = [(self.good, self.counts[0])].into_iter().chain(low);
+        [rare(self.what, low, floor), rare(self.what, high.into_iter(), EXPLAINED_TIMES * floor)].concat()
+    }
+
     fn words(&self) -> String {
         format!("{}: {} {}, {}", self.what, self.good, self.counts[0], counts_words(self.named()))
     }
 }
 
-/// What has been counted so far; the reasons, the second 60, the degrees, the outputs, the roundings and the widths are those of generated feeds,
-/// texts and tables alone.
+/// What has been counted so far; the reasons, the second 60, the degrees, the outputs, the blames, the listed codes, the roundings and the widths are
+/// those of generated feeds, texts and tables alone.
 pub struct Tally {
     pub feeds: usize,
     pub texts: usize,
@@ -61,6 +74,7 @@ pub struct Tally {
     pub answers: usize,
     pub differences: usize,
     pub judged: Counts,
+    pub explained: Counts,
     pub loads: Counts,
     pub tickets: Counts,
     pub writings: Counts,
@@ -70,6 +84,8 @@ pub struct Tally {
     pub sixties: Sixties,
     pub degrees: Degrees,
     pub outputs: Outputs,
+    pub blames: Blames,
+    pub listed: Listed,
     pub roundings: Roundings,
     pub widths: Widths,
     save: PathBuf,
@@ -84,6 +100,7 @@ impl Tally {
             answers: 0,
             differences: 0,
             judged: Counts::new("generated judgements", "accepted", 1..=11),
+            explained: Counts::new("generated explanations", "accepted", 1..=11),
             loads: Counts::new("generated loads", "accepted", 1..=13),
             tickets: Counts::new("generated tickets", "answered", 14..=16),
             writings: Counts::new("generated writings", "written", 1..=12),
@@ -93,6 +110,8 @@ impl Tally {
             sixties: sixties(),
             degrees: degrees(),
             outputs: outputs(),
+            blames: blames(),
+            listed: listed(),
             roundings: roundings(),
             widths: widths(),
             save: save_directory(),
@@ -105,23 +124,27 @@ impl Tally {
         let kinds = [&self.judged, &self.loads, &self.tickets, &self.writings];
         let of_kinds = kinds.iter().flat_map(|counts| counts.rare(floor));
         let of_feeds = self.sixties.rare(floor).into_iter().chain(self.degrees.rare(floor)).chain(self.outputs.rare(floor));
+        let of_blames = self.explained.rare_explained(floor).into_iter().chain(self.blames.rare(floor)).chain(self.listed.rare(floor));
         let floor = floor_of(texts, FLOOR_TEXTS);
         let of_texts = self.sayings.rare(floor).into_iter().chain(self.roundings.rare(floor));
         let floor = floor_of(tables, FLOOR_TABLES);
         let movings = [&self.widenings, &self.narrowings];
         let of_tables = movings.iter().flat_map(|counts| counts.rare(floor)).chain(self.widths.rare(floor));
-        let rare: Vec<String> = of_kinds.chain(of_feeds).chain(of_texts).chain(of_tables).collect();
+        let rare: Vec<String> = of_kinds.chain(of_feeds).chain(of_blames).chain(of_texts).chain(of_tables).collect();
         // A run that stopped early has not had the time to bring everything.
         let too_rare = self.differences == 0 && !rare.is_empty();
         if too_rare {
             rare.iter().for_each(|words| println!("{words}"));
         }
         kinds.iter().for_each(|counts| println!("{}", counts.words()));
+        println!("{}", self.explained.words());
         println!("{}", self.sayings.words());
         movings.iter().for_each(|counts| println!("{}", counts.words()));
         println!("{}", self.sixties.words());
         println!("{}", self.degrees.words());
         println!("{}", self.outputs.words());
+        println!("{}", self.blames.words());
+        println!("{}", self.listed.words());
         println!("{}", self.roundings.words());
         println!("{}", self.widths.words());
         println!("{} feeds, {} answers, {} differences", self.feeds, self.answers, self.differences);
@@ -181,6 +204,9 @@ mod tests {
         tally.sixties.counts = [FLOOR; 6];
         tally.degrees.counts = [FLOOR; 4];
         tally.outputs.counts = [FLOOR; 17];
+        (0..=11).for_each(|reason| tally.explained.counts[reason] = if reason < 3 { FLOOR } else { 10 * FLOOR });
+        tally.blames.counts.fill(FLOOR);
+        tally.listed.counts.fill(FLOOR);
         tally.roundings.counts.fill(FLOOR);
         tally.widths.counts.fill(FLOOR);
         tally
@@ -236,6 +262,17 @@ mod tests {
     #[test]
     fn a_run_that_lacks_a_reason_of_writings_fails() {
         (1..=12).for_each(|reason| fails(|tally| tally.writings.counts[reason] -= 1));
+    }
+
+    #[test]
+    fn a_run_that_lacks_a_reason_of_explanations_fails() {
+        (0..=11).for_each(|reason| fails(|tally| tally.explained.counts[reason] -= 1));
+    }
+
+    #[test]
+    fn a_run_that_lacks_something_that_explanations_show_fails() {
+        (0..whole().blames.counts.len()).for_each(|at| fails(|tally| tally.blames.counts[at] -= 1));
+        (0..whole().listed.counts.len()).for_each(|at| fails(|tally| tally.listed.counts[at] -= 1));
     }
 
     #[test]
