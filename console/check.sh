@@ -26,7 +26,16 @@ make_day() { # a state for each second of a day: data line N of it, from 0, is l
   awk 'BEGIN { for (n = 0; n < 86400; n++) printf "2000-01-01T%02d:%02d:%02d %d %d 0 7.5 -1 0.25\n", n / 3600, n / 60 % 60, n % 60, n, -n }'
 }
 
-make_feeds() { # what a session changes or removes, and what is too big to be stored
+make_long_lines() { # two messages with a line that is 3,000,000 bytes too long, one by letters and one by blanks
+  local filling
+  for filling in x ' '; do
+    printf 'CCSDS_OPM_VERS=1.0\nCOMMENT'
+    head -c 3000247 /dev/zero | tr '\0' "$filling"
+    echo
+  done
+}
+
+make_feeds() { # what a session changes or removes, what is too big to be stored, and what is another feed but for a line or the line endings
   cp "$stored/whole.oem" "$fresh/changing.oem"
   cp "$stored/whole.oem" "$fresh/vanishing.oem"
   cp "$stored/whole.oem" "$fresh/write-changed.oem"
@@ -34,7 +43,12 @@ make_feeds() { # what a session changes or removes, and what is too big to be st
   { cat "$fresh/full.feed"; echo; } >"$fresh/long.feed"
   { cat "$stored/whole.oem"; blank_lines 65292; } >"$fresh/past.feed" # 65,536 bytes, one past the limit of earlier consoles
   { blank_lines 65536; cat "$stored/whole.oem"; } >"$fresh/late.feed" # a message that starts past that limit
+  head -n 12 "$stored/whole.oem" >"$fresh/dataless.oem" # document 01's feed without its line 13, and with its line 12 twice
+  sed '12p' "$stored/whole.oem" >"$fresh/stopped.oem"
   make_day >"$fresh/day.feed"
+  make_long_lines >"$fresh/long-lines.feed"
+  tr '\n' '\r' <"$stored/why.feed" >"$fresh/why-cr.feed" # the messages of `why` with other line endings
+  awk -v ORS='\n\r' 1 "$stored/why.feed" >"$fresh/why-lf-cr.feed"
   mkfifo "$fresh/slow.feed"
 }
 

@@ -1,5 +1,6 @@
 /* The console: an analyst loads a message of a feed, has its rows spoken and sends it on. It judges nothing: every answer about a message, a row or a
- * ticket is the library's, and every value is one that the present load judged (desk.h). Here are the commands and what is said.
+ * ticket is the library's, and every value is one that the present load judged (desk.h). What `why` says as offending no load has accepted: it is said as
+ * that, never as a value. Here are the commands and what is said.
  */
 #define _POSIX_C_SOURCE 200809L
 #include <errno.h>
@@ -18,7 +19,9 @@
 #include "voice.h"
 #include "words.h"
 
-enum { COMMAND_ROOM = 8192, ENDING_ROOM = 8, OPM_HEADING = 1, OEM_HEADING = 36 };
+enum { COMMAND_ROOM = 8192, ENDING_ROOM = 8, OPM_HEADING = 1, EPOCH = 9, OEM_HEADING = 36 };
+
+enum { TEXT_TOP = 254 }; /* so much is said of an offending text: a line that is not too long is said whole */
 
 static uint32_t heading;     /* the code of the present load's row 0: it tells what a group is called */
 static struct ticket ticket; /* the one that `ticket` keeps and `speak` uses */
@@ -66,8 +69,8 @@ static bool bring_feed(const char *name) {
     return right;
 }
 
-static void say_row_count(void) {
-    say("%" PRIu32 " row%s", desk_rows(), desk_rows() == 1 ? "" : "s");
+static void say_row_count(uint32_t rows) {
+    say("%" PRIu32 " row%s", rows, rows == 1 ? "" : "s");
 }
 
 static void say_group(uint32_t group) {
@@ -159,6 +162,51 @@ static bool spoken_or_say(void) {
     return spoken_here();
 }
 
+/* Why a message is refused: no load has accepted this text, so it is said to offend before it is heard */
+
+static bool is_plain(uint8_t byte) {
+    return byte >= 32 && byte <= 126;
+}
+
+static bool only_blanks(const uint8_t *text, size_t length) {
+    size_t at = 0;
+    while (at < length && text[at] == ' ') at++;
+    return at == length;
+}
+
+/* The text, or its beginning where it is long, with a `?` for each byte that is no plain text. */
+static void say_offending(const uint8_t *text, size_t length) {
+    char said[TEXT_TOP + 1];
+    size_t end = 0;
+    while (end < length && end < TEXT_TOP) {
+        said[end] = is_plain(text[end]) ? (char)text[end] : '?';
+        end++;
+    }
+    said[end] = '\0';
+    if (length == 0) say("the offending text is empty");
+    else if (only_blanks(text, length)) say("the offending text is blanks alone");
+    else if (end < length) say("offending text, its first %zu characters: %s", end, said);
+    else say("offending text: %s", said);
+}
+
+/* The message's type tells whether 9 is the keyword or a data line. */
+static void say_could_stand(struct blame blame) {
+    for (uint32_t at = 0; at < blame.answer.count && at < sizeof blame.answer.codes / sizeof blame.answer.codes[0]; at++) {
+        uint32_t code = blame.answer.codes[at];
+        say("%s could have stood there", blame.in_oem && code == EPOCH ? "a data line" : keyword_word(code));
+    }
+}
+
+/* What comes after the reason and the line. */
+static void say_blame(struct blame blame) {
+    uint32_t reason = blame.answer.reason, length = blame.answer.length;
+    if (reason == ODM_LONG) say("%" PRIu32 " byte%s too many", length, length == 1 ? "" : "s");
+    if (reason == ODM_SHORT) say("the message ends there");
+    else say_offending(blame.text, length);
+    if (reason == ODM_BYTE && length > 0) say("the byte is %d, and plain text is from 32 to 126", *blame.text);
+    say_could_stand(blame);
+}
+
 /* Commands */
 
 struct argument {
@@ -186,12 +234,25 @@ static void run_load(struct argument argument) {
     }
     heading = desk_read(desk_load(), 0).row.code;
     say("message %" PRIu64 " accepted", argument.number);
-    say_row_count();
+    say_row_count(desk_rows());
+}
+
+/* Nothing is loaded: the present load, its tickets and the row spoken last stay. */
+static void run_why(struct argument argument) {
+    struct blame blame = desk_explain((size_t)argument.number);
+    if (blame.answer.reason == ODM_OK) {
+        say("message %" PRIu64 " would be accepted", argument.number);
+        say_row_count(blame.answer.rows);
+        return;
+    }
+    say("message %" PRIu64 " refused", argument.number);
+    say_reason(blame.answer.reason, blame.answer.line);
+    if (blame.text != NULL) say_blame(blame);
 }
 
 static void run_rows(struct argument argument) {
     (void)argument;
-    say_row_count();
+    say_row_count(desk_rows());
     for (uint32_t number = 0; number < desk_rows() && !voice_lost(); number++) speak_row(number);
 }
 
@@ -308,7 +369,7 @@ static void run_record(struct argument argument) {
     const uint8_t *table = desk_table(&length);
     if (file_put(argument.text, table, length, &error)) {
         say("table recorded in %s", argument.text);
-        say_row_count();
+        say_row_count(desk_rows());
         say("%zu bytes", length);
     } else {
         say_error("write", argument.text, error);
@@ -369,6 +430,7 @@ static const struct command {
 } commands[] = {
     {"messages", NOTHING, 0, run_messages, "messages: how many messages the feed for the next load has"},
     {"load", A_NUMBER, SIZE_MAX, run_load, "load N: load message N of that feed, from 1"},
+    {"why", A_NUMBER, SIZE_MAX, run_why, "why N: say why message N of that feed is refused, and load nothing"},
     {"rows", NOTHING, 0, run_rows, "rows: speak all rows of the present load"},
     {"row", A_NUMBER, UINT32_MAX, run_row, "row N: speak row N of the present load, from 0"},
     {"next", NOTHING, 0, run_next, "next: speak the row after the one spoken last, at first row 0"},

@@ -1,11 +1,12 @@
 #include "desk.h"
 
 #include <stdlib.h>
+#include <string.h>
 
 #include "file.h"
 #include "progress.h"
 
-static struct bytes next;     /* the feed that the next load is judged from: nothing of it can be heard before that */
+static struct bytes next;     /* the feed that the next load is judged from: before that only what offends in it can be heard */
 static struct bytes loaded;   /* the feed that the last accepted load was judged from: the rows in the table are of these bytes and of no others */
 static struct bytes table;    /* that load's rows */
 static size_t loaded_message; /* the number of its message in its feed */
@@ -54,6 +55,41 @@ bool desk_place(size_t message, odm_placed *answer) {
     else free(fresh.at); /* the table is as it was, and so is the feed that belongs to it */
     *answer = desk;
     return room;
+}
+
+static bool ends_line(uint8_t byte) {
+    return byte == '\n' || byte == '\r';
+}
+
+/* Whether a heading line is that of an OEM: before its keyword it has blanks alone. */
+static bool is_oem(const uint8_t *line, size_t length) {
+    static const char keyword[] = "CCSDS_OEM_VERS";
+    size_t at = 0;
+    while (at < length && line[at] == ' ') at++;
+    return length - at >= strlen(keyword) && memcmp(line + at, keyword, strlen(keyword)) == 0;
+}
+
+/* Whether the message that has this place, or ends there, is an OEM: its heading line tells. The library is asked of each line before the place, from the
+ * last one back, whether it is a heading.
+ */
+static bool in_oem(size_t place) {
+    size_t start = place, end = place;
+    while (start > 0) {
+        start--;
+        if (start > 0 && !ends_line(next.at[start - 1])) continue;
+        if (odm_headings(next.at + start, end - start).count > 0) return is_oem(next.at + start, end - start);
+        end = start;
+    }
+    return false;
+}
+
+struct blame desk_explain(size_t message) {
+    progress_begin("judging");
+    odm_explained answer = odm_explain(next.at, next.length, message);
+    bool inside = answer.line > 0 && answer.start <= next.length && answer.length <= next.length - answer.start;
+    bool oem = inside && answer.count > 0 && in_oem(answer.start);
+    progress_end();
+    return (struct blame){answer, inside ? next.at + answer.start : NULL, oem};
 }
 
 uint32_t desk_load(void) {

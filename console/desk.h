@@ -1,5 +1,6 @@
 /* The console's desk: the one place that lends a feed to the library, and always with the table that belongs to it. A value can be had only from a row that
  * the library gives to a ticket, and a message's text and its table only of the present load: so all three only from the bytes that this load judged.
+ * Of the feed for the next load one thing can be had: the bytes for which the library refuses a message, as a blame and never as a row.
  */
 #ifndef DESK_H
 #define DESK_H
@@ -22,6 +23,13 @@ struct heard {
     const uint8_t *value; /* the row's bytes, row.length of them; NULL on a refusal */
 };
 
+/* Why a message is refused, by the library. */
+struct blame {
+    odm_explained answer;
+    const uint8_t *text; /* the offending bytes, answer.length of them, until another feed is brought in; NULL where the feed has no such place */
+    bool in_oem;         /* whether the answer's codes are of an OEM, where 9 is a data line */
+};
+
 /* The present load's message, written out by the library. */
 struct sent {
     odm_written answer;
@@ -39,6 +47,9 @@ odm_counted desk_messages(void);
 
 /* Loads a message of the feed that was brought in last. False where there is no memory for its rows: then nothing was loaded, and all is as it was. */
 bool desk_place(size_t message, odm_placed *answer);
+
+/* Why a message of that feed is refused, if it is. Nothing is loaded, no desk moves, and no ticket ends. */
+struct blame desk_explain(size_t message);
 
 /* The present load's number and row count. */
 uint32_t desk_load(void);
