@@ -43,7 +43,7 @@ keywordPart s =
       | false ↦ sidesIn s .keyword
     ]
 
--- in the value field p: "In an assignment a number runs to the first blank." "Texts, integers and epochs are the whole trimmed field." The heading's value too.
+-- in the value field p: "In an assignment a number runs to the first blank." "Texts, integers and assigned epochs are the whole trimmed field." The heading's value too.
 unfoldable pub valueIn : Kind → Span → List ℕ → Span
 valueIn Number p s = record { from = p .from; to = p .from + wordLen (part p s) }
 valueIn Version p s = p
