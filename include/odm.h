@@ -148,7 +148,7 @@ typedef struct {
     uint32_t start;    /* for 3 to 11 the place of the offending bytes in the feed, from 0; else 0 */
     uint32_t length;   /* how many they are; 0 where there are none */
     uint32_t count;    /* for ODM_ORDER and ODM_SHORT how many keywords could have stood there; else 0 */
-    uint32_t codes[4]; /* their codes in rising order, 9 for a data line, without comments and headings; 0 past the count */
+    uint32_t codes[4]; /* their codes in rising order, no comment's and no heading's, in an OEM 9 for a data line; 0 past the count */
 } odm_explained;
 
 odm_explained odm_explain(const uint8_t *feed, size_t feed_len, size_t message);

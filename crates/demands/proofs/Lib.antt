@@ -5,4 +5,5 @@ pub mod Rows
 pub mod OwnRow
 pub mod OneAnswer
 pub mod Widths
+pub mod Listed
 pub mod Why
