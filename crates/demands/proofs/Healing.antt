@@ -17,12 +17,12 @@ use Rattle.judge.specs.Message.{isHeading, formOf, fromHeading, headings, upTo,
 use Rattle.judge.specs.declared.Judged.{Judged}
 use Rattle.judge.specs.declared.Judged.the-variants.{Accepted, Refused}
 use Rattle.tables.specs.Table.{hostRow, tableBytes}
-use Rattle.desk.specs.Loads.{topLoad, deskAfter, loadOf, loadTable}
-use Rattle.rows.specs.Place.{roomFor}
+use Rattle.desk.specs.Placing.{topLoad, deskAfter, placeOf, placeTable}
+use Rattle.rows.specs.Filled.{roomFor}
 use Rattle.desk.specs.declared.Desk.{Desk}
-use Rattle.demands.proofs.Loads.{answer-free, desk-free, load-judges}
+use Rattle.demands.proofs.Placing.{answer-free, desk-free, placing-fills}
 use Rattle.judge.specs.declared.Row.{Row}
-use Rattle.demands.specs.Healing.{movedRow, fromThere, Healing, HealingLoads}
+use Rattle.demands.specs.Healing.{movedRow, fromThere, Healing, HealingPlaced}
 
 -- ---- headings that stand before are passed
 
@@ -137,18 +137,18 @@ same-count d₁ d₂ (Accepted n) = refl
 
 -- a table after an acceptance, by the rows that the message has
 table-by : (f : List ℕ) (k n : ℕ) (rs : List Row) → rowsOf f k ≡ rs → (d : Desk) (t : List ℕ) → (d .load .0 ≡ topLoad → ⊥)
-    → loadOf d f k (length t) .answer ≡ Accepted n → loadTable d f k t ≡ tableBytes rs ++ drop (hostRow * n) t
-table-by f k n rs r d t h e = load-judges d f k t h .1 n e .2 ∙ ap (λ (x : List Row). tableBytes x ++ drop (hostRow * n) t) r
+    → placeOf d f k (length t) .answer ≡ Accepted n → placeTable d f k t ≡ tableBytes rs ++ drop (hostRow * n) t
+table-by f k n rs r d t h e = placing-fills d f k t n e .2 ∙ ap (λ (x : List Row). tableBytes x ++ drop (hostRow * n) t) r
 
-pub healing-loads : HealingLoads
-healing-loads f₁ f₂ q₁ q₂ l₁ l₂ s₁ s₂ e =
+pub healing-placed : HealingPlaced
+healing-placed f₁ f₂ q₁ q₂ l₁ l₂ s₁ s₂ e =
     let h₁ = healing f₁ q₁ l₁ s₁ in
     let h₂ = healing f₂ q₂ l₂ s₂ in
     let alike : (j : ℕ) → 1 ≤ j → judgeOf f₁ (fromThere f₁ q₁ j) ≡ judgeOf f₂ (fromThere f₂ q₂ j) =
     λ j k. h₁ .judged j k ∙ ap (λ (s : List ℕ). judgeOf s j) e ∙ sym (h₂ .judged j k)
     in
     let same : (j : ℕ) → 1 ≤ j → (d₁ d₂ : Desk) (t₁ t₂ : List ℕ) → (d₁ .load .0 ≡ topLoad → ⊥) → (d₂ .load .0 ≡ topLoad → ⊥) → length t₁ ≡ length t₂
-    → loadOf d₁ f₁ (fromThere f₁ q₁ j) (length t₁) .answer ≡ loadOf d₂ f₂ (fromThere f₂ q₂ j) (length t₂) .answer =
+    → placeOf d₁ f₁ (fromThere f₁ q₁ j) (length t₁) .answer ≡ placeOf d₂ f₂ (fromThere f₂ q₂ j) (length t₂) .answer =
     λ j k d₁ d₂ t₁ t₂ n₁ n₂ g. answer-free d₁ f₁ _ _ n₁ ∙ ap₂ roomFor g (alike j k) ∙ sym (answer-free d₂ f₂ _ _ n₂)
     in
     let rows : (j : ℕ) → 1 ≤ j → rowsOf f₂ (fromThere f₂ q₂ j) ≡ map (movedRow q₂) (rowsOf (drop q₁ f₁) j) =
@@ -159,7 +159,7 @@ healing-loads f₁ f₂ q₁ q₂ l₁ l₂ s₁ s₂ e =
       answers = same;
       counts = λ j k d₁ d₂ t₁ t₂ n₁ n₂ g.
           ap (λ (b : Desk). b .count) (desk-free d₁ f₁ _ _ n₁ _ (same j k d₁ d₂ t₁ t₂ n₁ n₂ g))
-          ∙ same-count d₁ d₂ (loadOf d₂ f₂ (fromThere f₂ q₂ j) (length t₂) .answer)
+          ∙ same-count d₁ d₂ (placeOf d₂ f₂ (fromThere f₂ q₂ j) (length t₂) .answer)
           ∙ sym (ap (λ (b : Desk). b .count) (desk-free d₂ f₂ _ _ n₂ _ refl));
       tables₁ = λ j n k d t u a. table-by f₁ _ n _ (h₁ .rows j k) d t u a;
       tables₂ = λ j n k d t u a. table-by f₂ _ n _ (rows j k) d t u a;

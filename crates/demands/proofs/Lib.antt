@@ -1,5 +1,5 @@
 pub mod Marked
-pub mod Loads
+pub mod Placing
 pub mod Healing
 pub mod Rows
 pub mod OwnRow

@@ -22,9 +22,9 @@ use Rattle.grammar.specs.declared.Keyword.the-variants.{Code}
 use Rattle.grammar.proofs.Laws.{below, comesOnly, next-only}
 use Rattle.step.specs.Step.{sixtyStands, isTimely, areNumbers, dataAt, dataOf, fieldsOf, pastWhole, wholeOf, numberOf, pastTime, isEarly, timeOf, valueOf, assignOf, metaCode, metaOf, plainOf, pastComment, uncommentedOf, filledOf, stepOf}
 use Rattle.judge.specs.Message.{fromHeading, headings, upTo, messageOf, endOf, judgeTexts, judgeLines, judgeOf, groupOf, rowsAt, rowsFrom, rowsLines}
-use Rattle.desk.specs.Loads.{deskAfter, loadOf}
+use Rattle.desk.specs.Placing.{deskAfter, placeOf}
 use Rattle.tables.specs.Table.{entryBytes, tableBytes}
-use Rattle.rows.specs.Place.{roomFor}
+use Rattle.rows.specs.Filled.{roomFor}
 use Rattle.parts.specs.Parts.{sidesIn, keywordPart, valueIn, kindIn, firstWrong, dataPart, valuePart, unitPart, offending}
 use Rattle.explain.specs.Codes as Codes
 use Rattle.explain.specs.Codes.{those, codeMore, codesOf, codesFor}
@@ -92,7 +92,7 @@ tied = (
 
 -- one declaration, so that the definitions are opened once
 both : Marked × Met × Refusals
-unfolding has bytes agrees run isWord lastLine linesFrom linesBefore cutEnd trimOf heads headingOf wordEnds commentOf sidesOf assignmentOf fieldThen fieldsFrom fieldMore gathered signLen isExponent endsNumber afterWhole isNumber digitsFrom integerTop isInteger isLeap monthDays daysBefore monthDay yearDay lastSecond isClock isFraction timedOf epochOf isBefore pick keywords codeIn keywordOf isUnit nextOf allows isTimely areNumbers dataAt dataOf fieldsOf pastWhole wholeOf numberOf pastTime isEarly timeOf valueOf assignOf metaCode metaOf plainOf pastComment uncommentedOf filledOf stepOf fromHeading headings upTo messageOf endOf judgeTexts judgeLines judgeOf groupOf rowsAt rowsFrom rowsLines roomFor deskAfter loadOf entryBytes tableBytes sidesIn keywordPart valueIn kindIn firstWrong dataPart valuePart unitPart offending those codeMore Codes.gathered codesOf codesFor blamed ended explainFrom explainLines explainOf
+unfolding has bytes agrees run isWord lastLine linesFrom linesBefore cutEnd trimOf heads headingOf wordEnds commentOf sidesOf assignmentOf fieldThen fieldsFrom fieldMore gathered signLen isExponent endsNumber afterWhole isNumber digitsFrom integerTop isInteger isLeap monthDays daysBefore monthDay yearDay lastSecond isClock isFraction timedOf epochOf isBefore pick keywords codeIn keywordOf isUnit nextOf allows isTimely areNumbers dataAt dataOf fieldsOf pastWhole wholeOf numberOf pastTime isEarly timeOf valueOf assignOf metaCode metaOf plainOf pastComment uncommentedOf filledOf stepOf fromHeading headings upTo messageOf endOf judgeTexts judgeLines judgeOf groupOf rowsAt rowsFrom rowsLines roomFor deskAfter placeOf entryBytes tableBytes sidesIn keywordPart valueIn kindIn firstWrong dataPart valuePart unitPart offending those codeMore Codes.gathered codesOf codesFor blamed ended explainFrom explainLines explainOf
 both =
     let sixties : Sixty = (
       (refl, refl, refl, refl, refl, (λ b. refl), (λ b. refl), sixty-one),

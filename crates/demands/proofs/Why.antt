@@ -1,4 +1,4 @@
--- Why a message was refused: the reason is the load's, the codes are exactly those that could have stood there, the bytes lie in the blamed line.
+-- Why a message was refused: the reason is placing's, the codes are exactly those that could have stood there, the bytes lie in the blamed line.
 -- Assumes nothing.
 use Prim.Native.Nat.{ℕ, suc, _+_, _-_, _*_, _≤_, _<_}
 use mathlib.Core.Path.{_≡_, refl, sym, ap, _∙_}
@@ -30,9 +30,10 @@ use Rattle.explain.specs.Explain.{plainly, blamed, ended, explainFrom, explainL
 use Rattle.explain.specs.declared.Explained.{Explained}
 use Rattle.parts.proofs.Laws.{offending-inside}
 use Rattle.tables.specs.Table.{hostRow}
-use Rattle.desk.specs.Loads.{loadOf}
-use Rattle.rows.specs.Place.{roomFor}
+use Rattle.desk.specs.Placing.{placeOf}
+use Rattle.rows.specs.Filled.{roomFor}
 use Rattle.demands.proofs.Listed.{codes-packed, codes-exactly, codes-rising}
+use Rattle.demands.specs.Placing.{JudgingPlain}
 use Rattle.demands.specs.Why.{SameReason, stateAfter, formIn, stateBefore, listedIn, ListedExactly, noLine, startOr, InTheLine, Rising, InOrder}
 
 nil-cons : {A : Type 0} {x : A} {xs : List A} → [] ≡ x ∷ xs → ⊥
@@ -207,8 +208,8 @@ room-stays bytes (Refused r l) h = refl
 room-stays bytes (Accepted n) h = rw (le-ltb _ _ (h n refl), roomFor)
 
 pub same-reason : SameReason
-unfolding loadOf
-same-reason d f k bytes h room = rw (ne-eqb _ _ h, loadOf) (rw (← judged-same f k) (room-stays bytes _ room))
+unfolding placeOf
+same-reason d f k bytes h room = rw (ne-eqb _ _ h, placeOf) (rw (← judged-same f k) (room-stays bytes _ room))
 
 -- the codes beside a reason
 codes-order : (st : State) (r : Reason) → reasonNo r ≡ 7 → codesFor st r ≡ codesOf st
@@ -220,7 +221,7 @@ unfolding codesFor
 codes-other st r e = rw (ne-eqb _ _ e, codesFor)
 
 -- two refusals that are the same
-refused-same : {q r : Reason} {m n : ℕ} → Refused q m ≡ Refused r n → (q ≡ r) × (m ≡ n)
+pub refused-same : {q r : Reason} {m n : ℕ} → Refused q m ≡ Refused r n → (q ≡ r) × (m ≡ n)
 refused-same e = (cc, cc)
 
 module _ (f : List ℕ) (k : ℕ) where
@@ -310,6 +311,18 @@ listed-exactly f k r n e =
 pub in-the-line : InTheLine
 in-the-line f k r n e =
     ⊎-elim (λ w. let h = early r n _ e w in (λ a b. absurd (omega arith), λ z. absurd (omega arith))) (λ w. lies-way f k r n w e) (story f k)
+
+-- and so which reasons judging gives
+plain-way : (r : Reason) (n : ℕ) {e line : ℕ} {st : State} {ms : List Line} {x : Explained} → Way e st line ms x → x .judged ≡ Refused r n → reasonNo r ≤ 11
+unfolding blamed
+plain-way r n (accepted m) e = absurd (not-both {j = Accepted m} refl e)
+plain-way r n (short m q h) e = rw (← refused-same e .0) (omega arith)
+plain-way r n (blame i m t q b o h) e = rw (← refused-same e .0) (omega (arith, o .1))
+
+pub judging-plain : JudgingPlain
+judging-plain f k r n e =
+    let h = judged-same f k ∙ e in
+    ⊎-elim (λ w. omega (arith, early r n _ h w)) (λ w. plain-way r n w h) (story f k)
 
 pub in-order : InOrder
 in-order f k = ⊎-elim (λ w. rw (w .2) tt) (λ w. rises-way f k w) (story f k)

@@ -11,7 +11,7 @@ use Rattle.reasons.specs.declared.Reason.the-variants as Reasons
 use Rattle.judge.specs.declared.Judged.the-variants.{Accepted, Refused}
 use Rattle.judge.specs.declared.Row.{Row}
 use Rattle.tables.specs.Table.{hostRow, tableBytes}
-use Rattle.desk.specs.Loads.{topLoad, loadOf, loadTable}
+use Rattle.desk.specs.Placing.{topLoad, placeOf, placeTable}
 use Rattle.desk.specs.declared.Desk.{Desk}
 use Rattle.demands.specs.Marked.{feedInFull}
 
@@ -40,23 +40,23 @@ pub record Alike (f₁ f₂ : List ℕ) (q₁ q₂ : ℕ) : Type 0 where
   -- "Then the first, second and each later message from there gets the same judgement, judged by demand 2's rules, with the same rows, reason and
   -- line, given tables of equal length and load numbers not spent."
   pub answers : (j : ℕ) → 1 ≤ j → (d₁ d₂ : Desk) (t₁ t₂ : List ℕ) → (d₁ .load .0 ≡ topLoad → ⊥) → (d₂ .load .0 ≡ topLoad → ⊥) → length t₁ ≡ length t₂
-      → loadOf d₁ f₁ (fromThere f₁ q₁ j) (length t₁) .answer ≡ loadOf d₂ f₂ (fromThere f₂ q₂ j) (length t₂) .answer
+      → placeOf d₁ f₁ (fromThere f₁ q₁ j) (length t₁) .answer ≡ placeOf d₂ f₂ (fromThere f₂ q₂ j) (length t₂) .answer
   pub counts : (j : ℕ) → 1 ≤ j → (d₁ d₂ : Desk) (t₁ t₂ : List ℕ) → (d₁ .load .0 ≡ topLoad → ⊥) → (d₂ .load .0 ≡ topLoad → ⊥) → length t₁ ≡ length t₂
-      → loadOf d₁ f₁ (fromThere f₁ q₁ j) (length t₁) .desk .count ≡ loadOf d₂ f₂ (fromThere f₂ q₂ j) (length t₂) .desk .count
+      → placeOf d₁ f₁ (fromThere f₁ q₁ j) (length t₁) .desk .count ≡ placeOf d₂ f₂ (fromThere f₂ q₂ j) (length t₂) .desk .count
   -- "Only positions in the feed differ, all by the same distance, and load numbers.": both messages' rows are the same rows, each start moved by its
   -- own feed's place, and after an acceptance each table holds them and then its own old bytes
   pub base : ℕ → List Row
   pub rows₁ : (j : ℕ) → 1 ≤ j → rowsOf f₁ (fromThere f₁ q₁ j) ≡ map (movedRow q₁) (base j)
   pub rows₂ : (j : ℕ) → 1 ≤ j → rowsOf f₂ (fromThere f₂ q₂ j) ≡ map (movedRow q₂) (base j)
-  pub tables₁ : (j n : ℕ) → 1 ≤ j → (d : Desk) (t : List ℕ) → (d .load .0 ≡ topLoad → ⊥) → loadOf d f₁ (fromThere f₁ q₁ j) (length t) .answer ≡ Accepted n
-      → loadTable d f₁ (fromThere f₁ q₁ j) t ≡ tableBytes (map (movedRow q₁) (base j)) ++ drop (hostRow * n) t
-  pub tables₂ : (j n : ℕ) → 1 ≤ j → (d : Desk) (t : List ℕ) → (d .load .0 ≡ topLoad → ⊥) → loadOf d f₂ (fromThere f₂ q₂ j) (length t) .answer ≡ Accepted n
-      → loadTable d f₂ (fromThere f₂ q₂ j) t ≡ tableBytes (map (movedRow q₂) (base j)) ++ drop (hostRow * n) t
+  pub tables₁ : (j n : ℕ) → 1 ≤ j → (d : Desk) (t : List ℕ) → (d .load .0 ≡ topLoad → ⊥) → placeOf d f₁ (fromThere f₁ q₁ j) (length t) .answer ≡ Accepted n
+      → placeTable d f₁ (fromThere f₁ q₁ j) t ≡ tableBytes (map (movedRow q₁) (base j)) ++ drop (hostRow * n) t
+  pub tables₂ : (j n : ℕ) → 1 ≤ j → (d : Desk) (t : List ℕ) → (d .load .0 ≡ topLoad → ⊥) → placeOf d f₂ (fromThere f₂ q₂ j) (length t) .answer ≡ Accepted n
+      → placeTable d f₂ (fromThere f₂ q₂ j) t ≡ tableBytes (map (movedRow q₂) (base j)) ++ drop (hostRow * n) t
 
 -- "Take two feeds within the size limit, and a place in each that starts a line, from which both run on with the same bytes, beginning with a heading
 -- line." The heading is not asked for: what follows holds without it.
-abbrev pub HealingLoads : Type 0
-HealingLoads = (f₁ f₂ : List ℕ) (q₁ q₂ : ℕ) → length f₁ ≤ feedLimit → length f₂ ≤ feedLimit → Starts f₁ q₁ → Starts f₂ q₂ → drop q₁ f₁ ≡ drop q₂ f₂
+abbrev pub HealingPlaced : Type 0
+HealingPlaced = (f₁ f₂ : List ℕ) (q₁ q₂ : ℕ) → length f₁ ≤ feedLimit → length f₂ ≤ feedLimit → Starts f₁ q₁ → Starts f₂ q₂ → drop q₁ f₁ ≡ drop q₂ f₂
     → Alike f₁ f₂ q₁ q₂
 
 -- the hypotheses can be met: two feeds with different damage before the feed in full

@@ -1,7 +1,7 @@
 pub mod Sixty
 pub mod Degree
 pub mod Marked
-pub mod Loads
+pub mod Placing
 pub mod Healing
 pub mod OneAnswer
 pub mod Widths

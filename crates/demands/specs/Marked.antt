@@ -14,7 +14,7 @@ use Rattle.judge.specs.Message.{judgeOf, rowsOf}
 use Rattle.judge.specs.declared.Judged.the-variants.{Accepted, Refused}
 use Rattle.judge.specs.declared.Row.{Row}
 use Rattle.tables.specs.Table.{tableBytes}
-use Rattle.desk.specs.Loads.{loadOf}
+use Rattle.desk.specs.Placing.{placeOf}
 use Rattle.desk.specs.declared.Desk.{Desk}
 use Rattle.reasons.specs.declared.Reason.the-variants as Reasons
 use Rattle.demands.specs.Sixty.{epochStands, Sixty}
@@ -96,9 +96,9 @@ Marked =
     × (rowsOf feedInFull 1 ≡ nineteenRows)
     × (judgeOf (bytes twelveLines) 1 ≡ Refused Reasons.Short 13)
     × (judgeOf (bytes twelveLines ++ (bytes "META_STOP\n" ++ bytes dataLine)) 1 ≡ Refused Reasons.Order 13)
-    × (loadOf freshDesk feedInFull 1 376 .answer ≡ Refused Reasons.NoRoom 0)
-    × (loadOf freshDesk feedInFull 1 377 .answer ≡ Refused Reasons.NoRoom 0)
-    × (loadOf freshDesk feedInFull 1 378 .answer ≡ Refused Reasons.NoRoom 0)
-    × (loadOf freshDesk feedInFull 1 379 .answer ≡ Refused Reasons.NoRoom 0)
-    × (loadOf freshDesk feedInFull 1 380 .answer ≡ Accepted 19)
+    × (placeOf freshDesk feedInFull 1 376 .answer ≡ Refused Reasons.NoRoom 0)
+    × (placeOf freshDesk feedInFull 1 377 .answer ≡ Refused Reasons.NoRoom 0)
+    × (placeOf freshDesk feedInFull 1 378 .answer ≡ Refused Reasons.NoRoom 0)
+    × (placeOf freshDesk feedInFull 1 379 .answer ≡ Refused Reasons.NoRoom 0)
+    × (placeOf freshDesk feedInFull 1 380 .answer ≡ Accepted 19)
     × (length (tableBytes nineteenRows) ≡ 380)

@@ -9,10 +9,10 @@ use lib.ListN.{length}
 use Rattle.judge.specs.Message.{judgeOf, countOf}
 use Rattle.judge.specs.declared.Judged.{Judged}
 use Rattle.judge.specs.declared.Counted.{Counted}
-use Rattle.desk.specs.Loads.{loadOf, loadTable, readOf, partHeard}
+use Rattle.desk.specs.Placing.{placeOf, placeTable, readOf, partHeard}
 use Rattle.desk.specs.declared.Desk.{Desk}
 use Rattle.desk.specs.declared.Ticket.{Ticket}
-use Rattle.desk.specs.declared.Loaded.{Loaded}
+use Rattle.desk.specs.declared.Placed.{Placed}
 use Rattle.tables.specs.declared.Heard.{Heard}
 use Rattle.tables.specs.declared.Resized.{Resized}
 use Rattle.tables.specs.Widths.{widenOf, widened, narrowOf, narrowed}
@@ -32,8 +32,8 @@ abbrev pub OneAnswer : Type 0
 OneAnswer =
     ((f : List ℕ) → One {A = Counted} (λ r. r ≡ countOf f))
     × ((f : List ℕ) (k : ℕ) → One {A = Judged} (λ r. r ≡ judgeOf f k))
-    × ((d : Desk) (f : List ℕ) (k : ℕ) (t : List ℕ) → One {A = Loaded} (λ r. r ≡ loadOf d f k (length t)))
-    × ((d : Desk) (f : List ℕ) (k : ℕ) (t : List ℕ) → One {A = List ℕ} (λ u. u ≡ loadTable d f k t))
+    × ((d : Desk) (f : List ℕ) (k : ℕ) (t : List ℕ) → One {A = Placed} (λ r. r ≡ placeOf d f k (length t)))
+    × ((d : Desk) (f : List ℕ) (k : ℕ) (t : List ℕ) → One {A = List ℕ} (λ u. u ≡ placeTable d f k t))
     × ((d : Desk) (k : Ticket) (f t : List ℕ) → One {A = Heard} (λ r. r ≡ readOf d k f t))
     × ((d : Desk) (k : Ticket) (f t : List ℕ) → One {A = List ℕ} (λ v. v ≡ partHeard (readOf d k f t) f))
     × ((f : List ℕ) (k : ℕ) (b : List ℕ) → One {A = Written} (λ r. r ≡ writtenOf f k (length b)))

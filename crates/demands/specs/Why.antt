@@ -16,7 +16,7 @@ use Rattle.reasons.specs.declared.Reason.{Reason}
 use Rattle.judge.specs.Message.{formOf, fromHeading, messageOf, texts}
 use Rattle.judge.specs.declared.Judged.the-variants.{Accepted, Refused}
 use Rattle.tables.specs.Table.{hostRow}
-use Rattle.desk.specs.Loads.{topLoad, loadOf}
+use Rattle.desk.specs.Placing.{topLoad, placeOf}
 use Rattle.desk.specs.declared.Desk.{Desk}
 use Rattle.explain.specs.Codes.{canBegin, noCodes}
 use Rattle.explain.specs.Explain.{explainOf}
@@ -25,7 +25,7 @@ use Rattle.explain.specs.declared.Codes.{Codes}
 -- "Reason and line are the load's": on every desk that is not spent, with a table that has room where the message is right
 abbrev pub SameReason : Type 0
 SameReason = (d : Desk) (f : List ℕ) (k bytes : ℕ) → (d .load .0 ≡ topLoad → ⊥) → ((n : ℕ) → explainOf f k .judged ≡ Accepted n → hostRow * n ≤ bytes)
-    → loadOf d f k bytes .answer ≡ explainOf f k .judged
+    → placeOf d f k bytes .answer ≡ explainOf f k .judged
 
 -- the state that lines lead to, and the one before line n of message k
 unfoldable pub stateAfter : State → List (List ℕ) → State

@@ -1,4 +1,4 @@
--- Laws of a load's answer and of what a ticket hears, one a case.
+-- Laws of placing's answer and of what a ticket hears, one a case.
 -- Assumes nothing.
 use mathlib.Core.Path.{_≡_}
 use mathlib.Core.List.{List}
@@ -9,10 +9,10 @@ use lib.ListN.{length}
 use borrow.Author.Tests.{eq-eqb, ne-eqb, lt-ltb, le-ltb}
 use Rattle.reasons.specs.declared.Reason.the-variants as Reasons
 use Rattle.judge.specs.declared.Row.{Row}
-use Rattle.desk.specs.Loads.{topLoad, deskAfter, loadOf, readOf}
+use Rattle.desk.specs.Placing.{topLoad, deskAfter, placeOf, readOf}
 use Rattle.tables.specs.Table.{hostWidth}
 use Rattle.tables.specs.Hearing.{rowHeard}
-use Rattle.rows.specs.Place.{roomFor}
+use Rattle.rows.specs.Filled.{roomFor}
 use Rattle.tables.proofs.Hearing.{Within, row-within}
 use Rattle.judge.specs.Message.{judgeOf}
 use Rattle.judge.specs.declared.Judged.{Judged}
@@ -21,16 +21,16 @@ use Rattle.desk.specs.declared.Desk.{Desk}
 use Rattle.desk.specs.declared.Ticket.{Ticket}
 use Rattle.tables.specs.declared.Heard.the-variants.{Spoken, Silent}
 
--- ---- a load
+-- ---- placing
 
 module _ (d : Desk) (f : List ℕ) (k : ℕ) (bytes : ℕ) where
-  pub load-spent : d .load .0 ≡ topLoad → loadOf d f k bytes ≡ record { desk = d; answer = Refused Reasons.Spent 0 }
-  unfolding loadOf
-  load-spent h = rw (eq-eqb _ _ h, loadOf)
+  pub place-spent : d .load .0 ≡ topLoad → placeOf d f k bytes ≡ record { desk = d; answer = Refused Reasons.Spent 0 }
+  unfolding placeOf
+  place-spent h = rw (eq-eqb _ _ h, placeOf)
 
-  pub load-answer : (d .load .0 ≡ topLoad → ⊥) → (j : Judged) → j ≡ roomFor bytes (judgeOf f k) → loadOf d f k bytes ≡ record { desk = deskAfter d j; answer = j }
-  unfolding loadOf
-  load-answer more j e = rw (ne-eqb _ _ more, loadOf) (rw (← e))
+  pub place-answer : (d .load .0 ≡ topLoad → ⊥) → (j : Judged) → j ≡ roomFor bytes (judgeOf f k) → placeOf d f k bytes ≡ record { desk = deskAfter d j; answer = j }
+  unfolding placeOf
+  place-answer more j e = rw (ne-eqb _ _ more, placeOf) (rw (← e))
 
 -- ---- the ticket
 

@@ -1,11 +1,11 @@
-// The desk: loads a message into a lent table of bytes, and speaks a row only to a ticket of the present load.
+// The desk: places a message in a lent table of bytes, and speaks a row only to a ticket of the present load.
 use judge::Judged;
 use reasons::Reason;
 use tables::Heard;
 ghost use mathlib.Core.Path.{_≡_};
 ghost use Prim.Native.Nat.{_<_};
 ghost use lib.ListN.{length};
-ghost use Rattle.desk.specs.Loads.{nextDesk, deskAfter, loadOf, loadTable, readOf, partHeard};
+ghost use Rattle.desk.specs.Placing.{nextDesk, deskAfter, placeOf, placeTable, readOf, partHeard};
 
 // A load number and a row number are never taken for each other.
 pub struct LoadNumber(pub u32);
@@ -25,7 +25,7 @@ pub struct Desk {
 }
 
 // The next desk, on acceptance and refusal alike, with the answer.
-pub struct Loaded {
+pub struct Placed {
     pub desk: Desk,
     pub answer: Judged,
 }
@@ -46,7 +46,7 @@ impl Desk {
         }
     }
 
-    // The next load, holding so many rows.
+    // The next load number, holding so many rows.
     fn next(self, count: u32) -> Desk
         requires { ⌜ self .load .0 < 4294967295 ⌝ }
         ensures { λ r. ⌜ r ≡ nextDesk self count ⌝ }
@@ -57,7 +57,7 @@ impl Desk {
         }
     }
 
-    // The desk after a load with this answer.
+    // The desk after placing with this answer.
     fn after(self, answer: Judged) -> Desk
         requires { ⌜ self .load .0 < 4294967295 ⌝ }
         ensures { λ r. ⌜ r ≡ deskAfter self answer ⌝ }
@@ -69,18 +69,18 @@ impl Desk {
     }
 
     // Judges a message and, where it is right and the table has room, fills the table; the next desk comes back.
-    pub fn load(self, feed: &[u8], message: usize, table: &mut [u8]) -> Loaded
-        ensures answer { λ r. ⌜ r ≡ loadOf self (now (feed .entry)) message (length (now (table .entry))) ⌝ }
-        ensures table { λ _. ⌜ now (table .exit) ≡ loadTable self (now (feed .entry)) message (now (table .entry)) ⌝ }
+    pub fn place(self, feed: &[u8], message: usize, table: &mut [u8]) -> Placed
+        ensures answer { λ r. ⌜ r ≡ placeOf self (now (feed .entry)) message (length (now (table .entry))) ⌝ }
+        ensures table { λ _. ⌜ now (table .exit) ≡ placeTable self (now (feed .entry)) message (now (table .entry)) ⌝ }
     {
         if self.load.0 == Desk::TOP_LOAD {
-            return Loaded {
+            return Placed {
                 desk: self,
                 answer: Judged::Refused(Reason::Spent, 0),
             };
         }
-        let answer = rows::place(feed, message, table);
-        Loaded {
+        let answer = rows::put_message(feed, message, table);
+        Placed {
             desk: self.after(answer),
             answer,
         }

@@ -11,7 +11,7 @@ use lib.ListN.{length, take, drop, length-take, length-drop, drop-of-length-le}
 use lib.Seq.{drop-drop}
 use borrow.Author.Tests.{eq-eqb, ne-eqb, lt-ltb, le-ltb, ltb-true, ltb-false}
 use Rattle.lines.specs.declared.Ends.{Ends}
-use Rattle.lines.specs.Feed.{Line, linesAt, textLen, lineLen, endsOf}
+use Rattle.lines.specs.Feed.{Line, lines, linesAt, textLen, lineLen, endsOf}
 use Rattle.lines.proofs.Lists.{lines-next, lines-end, placed}
 use Rattle.grammar.specs.declared.Form.{Form}
 use Rattle.step.specs.Step.{noRow, freshState, stepOf}
@@ -24,10 +24,11 @@ use Rattle.step.specs.declared.Verdict.the-variants.{Right, Wrong}
 use Rattle.judge.specs.declared.Found.the-variants.{Place, Missing}
 use Rattle.judge.specs.declared.Judged.{Judged}
 use Rattle.judge.specs.declared.Judged.the-variants.{Accepted, Refused}
+use Rattle.judge.specs.declared.Sighted.the-variants as Sight
 use Rattle.judge.specs.declared.Met.{Met}
 use Rattle.judge.specs.declared.Met.the-variants.{End, Offence, Within}
 use Rattle.judge.specs.declared.Moved.{Moved}
-use Rattle.judge.specs.Message.{isHeading, formOf, fromHeading, headings, upTo, texts, endOf, judgeTexts, judgeLines, messageOf, judgeOf, feedLimit, metOf, movedOf, foundOf, FoundIs, rowsFrom, rowsLines, rowsOf}
+use Rattle.judge.specs.Message.{isHeading, formOf, fromHeading, headings, upTo, texts, endOf, judgeTexts, judgeLines, messageOf, judgeOf, feedLimit, metOf, movedOf, foundOf, FoundIs, sightedOf, SightedIs, rowsFrom, rowsLines, rowsOf}
 
 -- ---- past the feed's end
 
@@ -256,6 +257,18 @@ module _ (f : List ℕ) (k : ℕ) where
     judge-found p form q =
         let e = endsOf p (drop p f) in
         rw (le-ltb _ _ h, judgeOf) (rw (q .0, up-more f p e (q .1) refl true refl) (rw (text-left p (drop p f) e refl, q .2)))
+
+-- ---- a message judged, with its place
+
+module _ (f : List ℕ) (k : ℕ) where
+  pub sighted-wrong : (r : Reason) (l : ℕ) → judgeOf f k ≡ Refused r l → (Sight.Wrong r l ≡ sightedOf f k) × SightedIs (Sight.Wrong r l) k f
+  unfolding sightedOf SightedIs
+  sighted-wrong r l e = (rw e, e)
+
+  pub sighted-right : (p : ℕ) (form : Form) (n : ℕ) → judgeOf f k ≡ Accepted n → Place p form ≡ foundOf (fromHeading k (lines f)) → FoundIs (Place p form) k f
+      → (Sight.Right p form n ≡ sightedOf f k) × SightedIs (Sight.Right p form n) k f
+  unfolding sightedOf SightedIs
+  sighted-right p form n e q w = (rw (e, ← q), (e, w))
 
 -- no message is both accepted and refused
 pub not-both : {j : Judged} {n l : ℕ} {r : Reason} → j ≡ Accepted n → j ≡ Refused r l → ⊥

@@ -27,6 +27,8 @@ use Rattle.judge.specs.declared.Found.{Found}
 use Rattle.judge.specs.declared.Found.the-variants.{Place, Missing}
 use Rattle.judge.specs.declared.Judged.{Judged}
 use Rattle.judge.specs.declared.Judged.the-variants.{Accepted, Refused}
+use Rattle.judge.specs.declared.Sighted.{Sighted}
+use Rattle.judge.specs.declared.Sighted.the-variants as Sight
 use Rattle.step.specs.declared.State.{State}
 use Rattle.judge.specs.declared.Row.{Row}
 
@@ -119,6 +121,22 @@ foundOf (l ∷ ls) = Place (l .start) (formOf (l .text))
 unfoldable pub FoundIs : Found → ℕ → List ℕ → Type 0
 FoundIs (Place p f) k s = (fromHeading k (lines s) ≡ linesAt p (drop p s)) × (p < length s) × (f ≡ formOf (take (textLen (drop p s)) (drop p s)))
 FoundIs Missing k s = fromHeading k (lines s) ≡ []
+
+-- ---- a message judged, with its place
+
+-- an acceptance has the place where its message was found, and a refusal none; what is accepted was found, so the last line never comes
+abbrev pub sighted : Judged → Found → Sighted
+sighted (Refused r l) x = Sight.Wrong r l
+sighted (Accepted n) (Place p f) = Sight.Right p f n
+sighted (Accepted n) Missing = Sight.Wrong Reasons.NoMessage 0
+
+unfoldable pub sightedOf : List ℕ → ℕ → Sighted
+sightedOf f k = sighted (judgeOf f k) (foundOf (fromHeading k (lines f)))
+
+-- what follows from it: the judgement, and for an acceptance that the message is found there
+unfoldable pub SightedIs : Sighted → ℕ → List ℕ → Type 0
+SightedIs (Sight.Right p f n) k s = (judgeOf s k ≡ Accepted n) × FoundIs (Place p f) k s
+SightedIs (Sight.Wrong r l) k s = judgeOf s k ≡ Refused r l
 
 -- ---- rows
 

@@ -11,7 +11,7 @@ ghost use Prim.Native.Nat.{_≤_};
 ghost use lib.ListN.{length, drop};
 ghost use Rattle.lines.specs.Feed.{lines, linesAt};
 ghost use Rattle.step.specs.Step.{noRow, freshState};
-ghost use Rattle.judge.specs.Message.{isHeading, formOf, fromHeading, headings, upTo, texts, endOf, judgeTexts, judgeOf, countOf, metOf, movedOf, feedLimit, foundOf, FoundIs};
+ghost use Rattle.judge.specs.Message.{isHeading, formOf, fromHeading, headings, upTo, texts, endOf, judgeTexts, judgeOf, countOf, metOf, movedOf, feedLimit, foundOf, FoundIs, sightedOf, SightedIs};
 
 // A feed has at most so many bytes.
 pub const FEED_LIMIT: usize = 16777215;
@@ -46,6 +46,12 @@ pub struct Moved {
 pub enum Found {
     Place(usize, Form),
     Missing,
+}
+
+// A message judged: where one that is right starts, its type and its row count; else a reason and a line.
+pub enum Sighted {
+    Right(usize, Form, u32),
+    Wrong(Reason, u32),
 }
 
 // A row of the table.
@@ -212,15 +218,29 @@ fn judge_from(feed: &[u8], from: usize, form: Form) -> Judged
     }
 }
 
+// A message of a feed found and judged, so that a walk that comes behind need not find it again.
+pub fn sight(feed: &[u8], message: usize) -> Sighted
+    ensures answer { λ r. ⌜ r ≡ sightedOf (now (feed .entry)) message ⌝ }
+    ensures judged { λ r. ⌜ SightedIs r message (now (feed .entry)) ⌝ }
+{
+    if FEED_LIMIT < feed.len() {
+        return Sighted::Wrong(Reason::FeedLong, 0);
+    }
+    match find_message(feed, message) {
+        Found::Place(at, form) => match judge_from(feed, at, form) {
+            Judged::Accepted(rows) => Sighted::Right(at, form, rows),
+            Judged::Refused(reason, line) => Sighted::Wrong(reason, line),
+        },
+        Found::Missing => Sighted::Wrong(Reason::NoMessage, 0),
+    }
+}
+
 // A message of a feed, judged.
 pub fn judge(feed: &[u8], message: usize) -> Judged
     ensures { λ r. ⌜ r ≡ judgeOf (now (feed .entry)) message ⌝ }
 {
-    if FEED_LIMIT < feed.len() {
-        return Judged::Refused(Reason::FeedLong, 0);
-    }
-    match find_message(feed, message) {
-        Found::Place(at, form) => judge_from(feed, at, form),
-        Found::Missing => Judged::Refused(Reason::NoMessage, 0),
+    match sight(feed, message) {
+        Sighted::Right(_, _, rows) => Judged::Accepted(rows),
+        Sighted::Wrong(reason, line) => Judged::Refused(reason, line),
     }
 }

@@ -10,7 +10,7 @@ use Prim.Native.Nat.{ℕ}
 use lib.IntN.{pos}
 use Rattle.desk.specs.declared.Desk.{Desk}
 use Rattle.desk.specs.declared.Ticket.{Ticket}
-use Rattle.desk.specs.declared.Loaded.{Loaded}
+use Rattle.desk.specs.declared.Placed.{Placed}
 use Rattle.tables.specs.declared.Heard.{Heard}
 use Rattle.tables.specs.declared.Heard.the-variants.{Spoken, Silent}
 use Rattle.tables.specs.declared.Resized.{Resized}
@@ -45,7 +45,7 @@ abbrev pub ticketNos : ℕ → ℕ → Ticket
 ticketNos load row = record { load = record { 0 = load }; row = record { 0 = row } }
 
 -- the next desk's numbers, and the answer's
-abbrev pub placedNos : Loaded → OdmPlaced
+abbrev pub placedNos : Placed → OdmPlaced
 placedNos x =
     let a = judgedNos (x .answer) in
     record { load = x .desk .load .0; count = x .desk .count; reason = a .reason; line = a .line }

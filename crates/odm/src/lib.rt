@@ -13,7 +13,7 @@ use write::Written;
 ghost use mathlib.Core.Path.{_≡_};
 ghost use Rattle.judge.specs.Message.{countOf, judgeOf};
 ghost use lib.ListN.{length};
-ghost use Rattle.desk.specs.Loads.{loadOf, loadTable, readOf};
+ghost use Rattle.desk.specs.Placing.{placeOf, placeTable, readOf};
 ghost use Rattle.explain.specs.Explain.{explainOf};
 ghost use Rattle.rounding.specs.Say.{sayOf};
 ghost use Rattle.tables.specs.Widths.{widenOf, widened, narrowOf, narrowed};
@@ -125,17 +125,17 @@ pub extern "C" fn odm_place(
     message: usize,
     table: &mut [u8],
 ) -> OdmPlaced
-    ensures answer { λ r. ⌜ r ≡ placedNos (loadOf (deskNos load count) (now (feed .entry)) message (length (now (table .entry)))) ⌝ }
-    ensures table { λ _. ⌜ now (table .exit) ≡ loadTable (deskNos load count) (now (feed .entry)) message (now (table .entry)) ⌝ }
+    ensures answer { λ r. ⌜ r ≡ placedNos (placeOf (deskNos load count) (now (feed .entry)) message (length (now (table .entry)))) ⌝ }
+    ensures table { λ _. ⌜ now (table .exit) ≡ placeTable (deskNos load count) (now (feed .entry)) message (now (table .entry)) ⌝ }
 {
     let desk = Desk {
         load: LoadNumber(load),
         count,
     };
-    let loaded = desk.load(feed, message, table);
-    let next = loaded.desk;
+    let placed = desk.place(feed, message, table);
+    let next = placed.desk;
     let number = next.load;
-    let judged = loaded.answer;
+    let judged = placed.answer;
     let answer = judged_numbers(judged);
     OdmPlaced {
         load: number.0,

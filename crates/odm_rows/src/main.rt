@@ -90,11 +90,11 @@ fn say_rows(desk: Desk, feed: &[u8], table: &[u8]) {
     }
 }
 
-// One message: what the load answered, then its rows. The next desk comes back.
+// One message: what placing it answered, then its rows. The next desk comes back.
 fn say_message(desk: Desk, feed: &[u8], message: u32, table: &mut [u8]) -> Desk {
-    let loaded = desk.load(feed, message as usize, table);
-    let next = loaded.desk;
-    let answer = loaded.answer;
+    let placed = desk.place(feed, message as usize, table);
+    let next = placed.desk;
+    let answer = placed.answer;
     say(b"message");
     say_next(message);
     match answer {

@@ -8,7 +8,7 @@ use native.Mathlib.Numerals.{add-one}
 use native.Mathlib.Omega.{arith}
 use lib.Dec.{eqb, ltb}
 use lib.ListN.{length, take, drop, getD, length-append}
-use borrow.Author.Tests.{le-ltb, ltb-false}
+use borrow.Author.Tests.{lt-ltb, le-ltb, ltb-false}
 use lib.Seq.{length-take-le, drop-cons, getD-take}
 use Rattle.lines.specs.Feed.{Line}
 use Rattle.lines.specs.Text.{noSpan}
@@ -29,10 +29,9 @@ use Rattle.judge.specs.declared.Judged.{Judged}
 use Rattle.judge.specs.declared.Judged.the-variants.{Accepted, Refused}
 use Rattle.judge.specs.declared.Moved.{Moved}
 use Rattle.judge.specs.declared.Row.{Row}
-use Rattle.judge.proofs.Laws.{left, AtLine, judge-found, not-both, accepted-short}
-use Rattle.tables.proofs.Tables.{put-table}
+use Rattle.judge.proofs.Laws.{left, AtLine, judge-found, not-both, accepted-short, found-rows}
 use Rattle.tables.specs.Table.{hostRow, putRow, putRows}
-use Rattle.rows.specs.Place.{roomFor, tableAfter, StepFits, Fillable}
+use Rattle.rows.specs.Filled.{roomFor, StepFits, rowsFound, Fillable}
 
 -- ---- a line's rows
 
@@ -159,7 +158,19 @@ module _ (f : List ℕ) (k n : ℕ) (e : judgeOf f k ≡ Accepted n) where
     pub found-fillable : Fillable f p form
     found-fillable = record { limit = accepted-short f k n e; total = n; right = sym (judge-found f k (accepted-short f k n e) p form q) ∙ e }
 
--- ---- a table filled
+    pub found-count : n ≡ length (rowsFound f p form)
+    found-count = rw (← found-rows f k p form q) (sym rows-count)
+
+-- ---- a table's room
+
+module _ (bytes n : ℕ) where
+  pub no-room : bytes < hostRow * n → Refused Reasons.NoRoom 0 ≡ roomFor bytes (Accepted n)
+  unfolding roomFor
+  no-room h = rw (lt-ltb _ _ h, roomFor)
+
+  pub room-enough : hostRow * n ≤ bytes → Accepted n ≡ roomFor bytes (Accepted n)
+  unfolding roomFor
+  room-enough h = rw (le-ltb _ _ h, roomFor)
 
 -- an acceptance with room is one of the judge, and has the room
 pub room-right : (bytes : ℕ) (j : Judged) (n : ℕ) → Accepted n ≡ roomFor bytes j → (j ≡ Accepted n) × (hostRow * n ≤ bytes)
@@ -170,9 +181,3 @@ room-right bytes (Accepted m) n = go (ltb bytes (hostRow * m)) refl
     go : (t : Bool) → ltb bytes (hostRow * m) ≡ t → Accepted n ≡ elim t [ true ↦ Refused Reasons.NoRoom 0 | false ↦ Accepted m ] → (Accepted m ≡ Accepted n) × (hostRow * n ≤ bytes)
     go true q e = absurd (not-both (sym e) refl)
     go false q e = let z : n ≡ m = cc in (sym e, rw z (ltb-false _ _ q))
-
--- so the table is filled as the answer says
-pub table-filled : (f : List ℕ) (k n : ℕ) (t : List ℕ) (rs : List Row) → judgeOf f k ≡ Accepted n → hostRow * n ≤ length t → rowsOf f k ≡ rs
-    → putRows 0 rs t ≡ tableAfter (Accepted n) (rowsOf f k) t
-unfolding tableAfter
-table-filled f k n t rs q h e = rw (← e) (put-table (rowsOf f k) n t (rows-count f k n q) h)

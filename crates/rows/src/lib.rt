@@ -1,22 +1,19 @@
 // A message's rows in a lent table of bytes: judged and put there.
 use grammar::Form;
-use judge::Found;
 use judge::Judged;
 use judge::Met;
 use judge::Row;
+use judge::Sighted;
 use reasons::Reason;
 use step::State;
 use step::Step;
 use tables::ROW_BYTES;
 ghost use mathlib.Core.Path.{_≡_};
 ghost use Prim.Native.Nat.{_<_};
-ghost use lib.ListN.{length, take, drop};
-ghost use mathlib.Core.Bool.{true};
-ghost use Rattle.lines.specs.Feed.{linesAt};
-ghost use Rattle.step.specs.Step.{freshState};
-ghost use Rattle.judge.specs.Message.{feedLimit, upTo, judgeOf, groupOf, rowsAt, rowsFrom, rowsOf};
+ghost use lib.ListN.{length, take};
+ghost use Rattle.judge.specs.Message.{feedLimit, judgeOf, groupOf, rowsAt, rowsOf};
 ghost use Rattle.tables.specs.Table.{putRows};
-ghost use Rattle.rows.specs.Place.{StepFits, Fillable, roomFor, tableAfter};
+ghost use Rattle.rows.specs.Filled.{StepFits, rowsFound, Fillable, roomFor, tableAfter};
 
 // The group of a line's rows: a maneuver set's or a segment's first line begins the next one.
 fn group_after(form: Form, group: u32, code: u16) -> u32
@@ -66,7 +63,7 @@ fn put_rows(table: &mut [u8], n: u32, step: Step, group: u32, line: u32, at: usi
 // The rows of the message that starts at a place, put into the table from its start: the second walk, with the same step.
 fn fill(feed: &[u8], from: usize, form: Form, table: &mut [u8])
     requires { ⌜ Fillable (now feed) from form ⌝ }
-    ensures { λ _. ⌜ now (table .exit) ≡ putRows 0 (rowsFrom (freshState form) 0 1 (upTo true (linesAt from (drop from (now (feed .entry)))))) (now (table .entry)) ⌝ }
+    ensures { λ _. ⌜ now (table .exit) ≡ putRows 0 (rowsFound (now (feed .entry)) from form) (now (table .entry)) ⌝ }
 {
     let mut at = from;
     let mut line: u32 = 1;
@@ -92,42 +89,27 @@ fn fill(feed: &[u8], from: usize, form: Form, table: &mut [u8])
     }
 }
 
-// The judgement of a message, with a table of so many bytes.
-fn room_for(bytes: usize, judged: Judged) -> Judged
-    ensures { λ r. ⌜ r ≡ roomFor bytes judged ⌝ }
+// A message that is right, found at a place, with so many rows: nothing is put before the table is known to have room.
+fn put_found(feed: &[u8], from: usize, form: Form, rows: u32, table: &mut [u8]) -> Judged
+    requires { ⌜ Fillable (now feed) from form ⌝ }
+    requires { ⌜ rows ≡ length (rowsFound (now feed) from form) ⌝ }
+    ensures answer { λ r. ⌜ r ≡ roomFor (length (now (table .entry))) (Judged.Accepted rows) ⌝ }
+    ensures table { λ r. ⌜ now (table .exit) ≡ tableAfter r (rowsFound (now (feed .entry)) from form) (now (table .entry)) ⌝ }
 {
-    match judged {
-        Judged::Refused(reason, line) => Judged::Refused(reason, line),
-        Judged::Accepted(rows) => {
-            if bytes < ROW_BYTES * (rows as usize) {
-                return Judged::Refused(Reason::NoRoom, 0);
-            }
-            Judged::Accepted(rows)
-        }
+    if table.len() < ROW_BYTES * (rows as usize) {
+        return Judged::Refused(Reason::NoRoom, 0);
     }
-}
-
-// Where the answer is an acceptance, the message's rows are put into the table.
-fn fill_message(feed: &[u8], message: usize, answer: Judged, table: &mut [u8])
-    requires { ⌜ answer ≡ roomFor (length (now table)) (judgeOf (now feed) message) ⌝ }
-    ensures { λ _. ⌜ now (table .exit) ≡ tableAfter answer (rowsOf (now (feed .entry)) message) (now (table .entry)) ⌝ }
-{
-    match answer {
-        Judged::Refused(_, _) => {}
-        Judged::Accepted(_) => match judge::find_message(feed, message) {
-            Found::Place(at, form) => fill(feed, at, form, table),
-            Found::Missing => {}
-        },
-    }
+    fill(feed, from, form, table);
+    Judged::Accepted(rows)
 }
 
 // Judges a message and, where it is right and the table has room, puts its rows into the table.
-pub fn place(feed: &[u8], message: usize, table: &mut [u8]) -> Judged
+pub fn put_message(feed: &[u8], message: usize, table: &mut [u8]) -> Judged
     ensures answer { λ r. ⌜ r ≡ roomFor (length (now (table .entry))) (judgeOf (now (feed .entry)) message) ⌝ }
     ensures table { λ r. ⌜ now (table .exit) ≡ tableAfter r (rowsOf (now (feed .entry)) message) (now (table .entry)) ⌝ }
 {
-    let judged = judge::judge(feed, message);
-    let answer = room_for(table.len(), judged);
-    fill_message(feed, message, answer, table);
-    answer
+    match judge::sight(feed, message) {
+        Sighted::Wrong(reason, line) => Judged::Refused(reason, line),
+        Sighted::Right(at, form, rows) => put_found(feed, at, form, rows, table),
+    }
 }

@@ -1,8 +1,7 @@
 // A message written out in one plain form, into a lent buffer.
 use grammar::Form;
-use judge::Found;
-use judge::Judged;
 use judge::Met;
+use judge::Sighted;
 use lines::Span;
 use reasons::Reason;
 use step::State;
@@ -240,11 +239,8 @@ pub fn write(feed: &[u8], message: usize, buffer: &mut [u8]) -> Written
     ensures answer { λ r. ⌜ r ≡ writtenOf (now (feed .entry)) message (length (now (buffer .entry))) ⌝ }
     ensures buffer { λ r. ⌜ now (buffer .exit) ≡ bufferAfter r (plainOf (now (feed .entry)) message) (now (buffer .entry)) ⌝ }
 {
-    match judge::judge(feed, message) {
-        Judged::Refused(reason, line) => Written::Refused(reason, line),
-        Judged::Accepted(_) => match judge::find_message(feed, message) {
-            Found::Place(at, form) => write_found(buffer, feed, at, form),
-            Found::Missing => Written::Refused(Reason::NoMessage, 0),
-        },
+    match judge::sight(feed, message) {
+        Sighted::Wrong(reason, line) => Written::Refused(reason, line),
+        Sighted::Right(at, form, _) => write_found(buffer, feed, at, form),
     }
 }

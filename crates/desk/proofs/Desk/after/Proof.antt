@@ -1,6 +1,6 @@
 -- `desk::Desk::after` meets its contract: no rows after a refusal, the message's after an acceptance.
 -- Assumes nothing.
-use Rattle.desk.specs.Loads.{deskAfter}
+use Rattle.desk.specs.Placing.{deskAfter}
 use borrow.Author.Needs.{needs}
 use Rattle.desk.proofs.Desk.after.Statement.{statement}
 use Rattle.desk.proofs.Desk.after.Tie as tie

@@ -3,7 +3,7 @@
 use mathlib.Core.Path.{sym, _∙_}
 use native.Mathlib.Omega.{arith}
 use native.Mathlib.Nat.{add-sub-cancel-left}
-use Rattle.desk.specs.Loads.{partHeard}
+use Rattle.desk.specs.Placing.{partHeard}
 use Rattle.desk.proofs.Reading.{spoken-within}
 use borrow.Author.Needs.{needs}
 use Rattle.desk.proofs.Desk.value.Statement.{statement}

@@ -1,4 +1,4 @@
--- A message put into a table, by document 01, "Rows, desk and tickets" and its table of reasons.
+-- A message's rows in a table, by document 01, "Rows, desk and tickets" and its table of reasons.
 -- Assumes nothing.
 use Prim.Native.Nat.{ℕ, _+_, _*_, _<_, _≤_}
 use mathlib.Core.Path.{_≡_}
@@ -12,7 +12,7 @@ use Rattle.grammar.specs.declared.Form.{Form}
 use Rattle.step.specs.Step.{freshState}
 use Rattle.step.specs.declared.Step.{Step}
 use Rattle.reasons.specs.declared.Reason.the-variants as Reasons
-use Rattle.judge.specs.Message.{feedLimit, judgeTexts, texts, upTo}
+use Rattle.judge.specs.Message.{feedLimit, judgeTexts, texts, upTo, rowsFrom}
 use Rattle.judge.specs.declared.Judged.{Judged}
 use Rattle.judge.specs.declared.Judged.the-variants.{Accepted, Refused}
 use Rattle.judge.specs.declared.Row.{Row}
@@ -39,7 +39,11 @@ pub record StepFits (x : Step) (n at : ℕ) : Type 0 where
   pub code : x .code ≤ 45
   pub last : n + x .count ≤ 4294967295
 
--- the message from a place on is accepted
+-- the rows of the message from a place on
+abbrev pub rowsFound : List ℕ → ℕ → Form → List Row
+rowsFound f from form = rowsFrom (freshState form) 0 1 (upTo true (linesAt from (drop from f)))
+
+-- it is accepted
 pub record Fillable (f : List ℕ) (from : ℕ) (form : Form) : Type 0 where
   pub limit : length f ≤ feedLimit
   pub total : ℕ
