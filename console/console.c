@@ -73,6 +73,12 @@ static void say_row_count(uint32_t rows) {
     say("%" PRIu32 " row%s", rows, rows == 1 ? "" : "s");
 }
 
+/* Said of a message that is right and was not loaded. */
+static void say_would_be_accepted(uint64_t message, uint32_t rows) {
+    say("message %" PRIu64 " would be accepted", message);
+    say_row_count(rows);
+}
+
 static void say_group(uint32_t group) {
     if (heading == OEM_HEADING && group == 0) say("header");
     else if (heading == OEM_HEADING) say("segment %" PRIu32, group);
@@ -238,11 +244,21 @@ static void run_load(struct argument argument) {
 }
 
 /* Nothing is loaded: the present load, its tickets and the row spoken last stay. */
+static void run_preview(struct argument argument) {
+    odm_judged judged = desk_preview((size_t)argument.number);
+    if (judged.reason == ODM_OK) {
+        say_would_be_accepted(argument.number, judged.rows);
+        return;
+    }
+    say("message %" PRIu64 " would be refused", argument.number);
+    say_reason(judged.reason, judged.line);
+}
+
+/* Nothing is loaded here either. */
 static void run_why(struct argument argument) {
     struct blame blame = desk_explain((size_t)argument.number);
     if (blame.answer.reason == ODM_OK) {
-        say("message %" PRIu64 " would be accepted", argument.number);
-        say_row_count(blame.answer.rows);
+        say_would_be_accepted(argument.number, blame.answer.rows);
         return;
     }
     say("message %" PRIu64 " refused", argument.number);
@@ -430,6 +446,7 @@ static const struct command {
 } commands[] = {
     {"messages", NOTHING, 0, run_messages, "messages: how many messages the feed for the next load has"},
     {"load", A_NUMBER, SIZE_MAX, run_load, "load N: load message N of that feed, from 1"},
+    {"preview", A_NUMBER, SIZE_MAX, run_preview, "preview N: say what a load of message N would judge and how many rows, and load nothing"},
     {"why", A_NUMBER, SIZE_MAX, run_why, "why N: say why message N of that feed is refused, and load nothing"},
     {"rows", NOTHING, 0, run_rows, "rows: speak all rows of the present load"},
     {"row", A_NUMBER, UINT32_MAX, run_row, "row N: speak row N of the present load, from 0"},

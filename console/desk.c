@@ -41,10 +41,17 @@ static void keep(struct bytes fresh, size_t message) {
     loaded_message = message;
 }
 
-/* The message is judged for its row count, then once more to fill a table of that size. A refused one has no rows and fills nothing, but it moves the desk. */
-bool desk_place(size_t message, odm_placed *answer) {
+/* One call for a load and its preview, so that both judge the same bytes; whoever calls ends the progress. */
+static odm_judged judge_next(size_t message) {
     progress_begin("judging");
-    odm_judged judged = odm_judge(next.at, next.length, message);
+    return odm_judge(next.at, next.length, message);
+}
+
+/* The message is judged for its row count, then placed, which judges it once more and fills a table of that size. A refused one has no rows and fills
+ * nothing, but placing it moves the desk.
+ */
+bool desk_place(size_t message, odm_placed *answer) {
+    odm_judged judged = judge_next(message);
     struct bytes fresh = {NULL, (size_t)judged.rows * ODM_ROW_BYTES};
     fresh.at = malloc(fresh.length + 1); /* one byte more, since NULL may be the answer to a call for none */
     bool room = fresh.at != NULL;
@@ -55,6 +62,12 @@ bool desk_place(size_t message, odm_placed *answer) {
     else free(fresh.at); /* the table is as it was, and so is the feed that belongs to it */
     *answer = desk;
     return room;
+}
+
+odm_judged desk_preview(size_t message) {
+    odm_judged answer = judge_next(message);
+    progress_end();
+    return answer;
 }
 
 static bool ends_line(uint8_t byte) {

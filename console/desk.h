@@ -1,6 +1,6 @@
 /* The console's desk: the one place that lends a feed to the library, and always with the table that belongs to it. A value can be had only from a row that
  * the library gives to a ticket, and a message's text and its table only of the present load: so all three only from the bytes that this load judged.
- * Of the feed for the next load one thing can be had: the bytes for which the library refuses a message, as a blame and never as a row.
+ * Of the feed for the next load no byte can be had but those for which the library refuses a message, as a blame and never as a row.
  */
 #ifndef DESK_H
 #define DESK_H
@@ -45,10 +45,15 @@ bool desk_bring(const char *name, int *error);
 /* How many messages the feed for the next load has. */
 odm_counted desk_messages(void);
 
-/* Loads a message of the feed that was brought in last. False where there is no memory for its rows: then nothing was loaded, and all is as it was. */
+/* Judges a message of the feed that was brought in last, then places it: the analyst's load. False where there is no memory for its rows: then nothing
+ * was placed, and all is as it was.
+ */
 bool desk_place(size_t message, odm_placed *answer);
 
-/* Why a message of that feed is refused, if it is. Nothing is loaded, no desk moves, and no ticket ends. */
+/* What such a load would judge, and how many rows. Nothing is placed, no desk moves, and no ticket ends. */
+odm_judged desk_preview(size_t message);
+
+/* Why a message of that feed is refused, if it is. Nothing is placed, no desk moves, and no ticket ends. */
 struct blame desk_explain(size_t message);
 
 /* The present load's number and row count. */

@@ -1,5 +1,5 @@
-/* Recorded tables: files of what was the table of a load, here or at a console before feeds grew, whose tables had two bytes an entry. They are made over as
- * they are. Nothing of them is lent with a feed, and none of their numbers is looked at here or spoken.
+/* Recorded tables: files of what the library filled as it placed a message, here or at a console before feeds grew, whose tables had two bytes an entry.
+ * They are made over as they are. Nothing of them is lent with a feed, and none of their numbers is looked at here or spoken.
  */
 #ifndef TABLES_H
 #define TABLES_H
