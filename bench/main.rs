@@ -1,6 +1,6 @@
 //! Times as ratios: the product's archive against the second program, against a bare scan for line ends and, where it is built with `--cfg before`,
-//! against the archive of an earlier landing, interleaved in one run; its writing against its placing; and how judging, placing and reading grow up to the
-//! feed limit. `bench count WAY FEED TIMES` runs one of them alone, for a counter of instructions; `bench memory LENGTH` judges, places and reads one feed and
+//! against the archive of an earlier landing, interleaved in one run; its placing against its judging, and its writing against its placing; and how judging,
+//! placing and reading grow up to the feed limit. `bench count WAY FEED TIMES` runs one of them alone, for a counter of instructions; `bench memory LENGTH` judges, places and reads one feed and
 //! says what memory that took.
 #[path = "../second/src/judge/mod.rs"]
 #[allow(dead_code, unused_imports)]
@@ -43,6 +43,7 @@ struct Written {
 }
 
 type Judge = unsafe extern "C" fn(*const u8, usize, usize) -> Judged;
+type Place = unsafe extern "C" fn(u32, u32, *const u8, usize, usize, *mut u8, usize) -> Placed;
 
 extern "C" {
     fn odm_judge(feed: *const u8, length: usize, message: usize) -> Judged;
@@ -51,6 +52,8 @@ extern "C" {
     fn odm_write(feed: *const u8, length: usize, message: usize, buffer: *mut u8, room: usize) -> Written;
     #[cfg(before)]
     fn before_odm_judge(feed: *const u8, length: usize, message: usize) -> Judged;
+    #[cfg(before)]
+    fn before_odm_place(load: u32, count: u32, feed: *const u8, length: usize, message: usize, table: *mut u8, room: usize) -> Placed;
 }
 
 fn asked(judge: Judge, feed: &[u8], messages: &[usize]) -> u64 {
@@ -126,11 +129,20 @@ fn read_rows(feed: &[u8], rows: u32) -> u64 {
     })
 }
 
-fn place(feed: &[u8], messages: &[usize]) -> u64 {
+fn filled(place: Place, feed: &[u8], messages: &[usize]) -> u64 {
     LENT.with_borrow_mut(|table| {
-        let placed = messages.iter().map(|&message| unsafe { odm_place(0, 0, feed.as_ptr(), feed.len(), message, table.as_mut_ptr(), table.len()) });
+        let placed = messages.iter().map(|&message| unsafe { place(0, 0, feed.as_ptr(), feed.len(), message, table.as_mut_ptr(), table.len()) });
         placed.map(|answer| right(answer.reason, answer.load + answer.count + answer.line)).sum()
     })
+}
+
+fn place(feed: &[u8], messages: &[usize]) -> u64 {
+    filled(odm_place, feed, messages)
+}
+
+#[cfg(before)]
+fn place_before(feed: &[u8], messages: &[usize]) -> u64 {
+    filled(before_odm_place, feed, messages)
 }
 
 fn write(feed: &[u8], messages: &[usize]) -> u64 {
@@ -155,6 +167,16 @@ const WAYS: &[(&str, Way)] = &[
     ("before", before),
     ("second", second),
     ("scan", scan),
+];
+
+/// Placing and judging, and where it is built the same of the landing before.
+const PLACING: &[(&str, Way)] = &[
+    ("place", place),
+    ("product", product),
+    #[cfg(before)]
+    ("place-before", place_before),
+    #[cfg(before)]
+    ("before", before),
 ];
 
 /// Writing first, and the placing that it is held against.
@@ -213,15 +235,17 @@ struct Feed {
 fn feeds() -> Vec<Feed> {
     let whole = ephemeris(65_535);
     let mut damaged = whole.clone();
-    let last = damaged.len() - 2;
-    damaged[last] = b'x';
+    let digit = damaged.len() - 2;
+    damaged[digit] = b'x';
     let (states, numbers) = state_messages(65_535);
+    let last = vec![numbers.len()];
     vec![
         Feed { name: "64 KB ephemeris", bytes: whole, messages: vec![1], calls: 20 },
-        Feed { name: "64 KB of state messages, each judged", bytes: states, messages: numbers, calls: 1 },
+        Feed { name: "64 KB of state messages, each", bytes: states.clone(), messages: numbers, calls: 1 },
         Feed { name: "a state message alone", bytes: state_message().into_bytes(), messages: vec![1], calls: 2000 },
         Feed { name: "64 KB of keyword lines in one message", bytes: maneuvers(65_535), messages: vec![1], calls: 20 },
         Feed { name: "64 KB ephemeris refused at its last line", bytes: damaged, messages: vec![1], calls: 20 },
+        Feed { name: "the last of 64 KB of state messages", bytes: states, messages: last, calls: 20 },
     ]
 }
 
@@ -305,8 +329,27 @@ fn memory(length: usize) {
     println!("{} KB of feed and {} KB of table lent; the process's peak is {} KB", feed.len() / 1024, table / 1024, peak());
 }
 
+/// The ways of a list, without their names.
+fn only_ways(named: &[(&str, Way)]) -> Vec<Way> {
+    named.iter().map(|way| way.1).collect()
+}
+
+/// Placing against judging, now and in the landing before; a message that is refused is placed nowhere.
+fn say_placing() {
+    for feed in feeds().iter().filter(|feed| !feed.name.contains("refused")) {
+        lend(&feed.bytes, &feed.messages);
+        let times = measure(&feed.bytes, &feed.messages, &only_ways(PLACING), 41, feed.calls);
+        println!("placing {}: {:.1} microseconds", feed.name, times[0] * 1e6);
+        println!("  against judging: {:.2}", times[0] / times[1]);
+        if let [now, _, then, judged] = times[..] {
+            println!("  in the landing before, against judging: {:.2}", then / judged);
+            println!("  against placing in the landing before: {:.2}", now / then);
+        }
+    }
+}
+
 fn times() {
-    let ways: Vec<Way> = WAYS.iter().map(|way| way.1).collect();
+    let ways = only_ways(WAYS);
     println!("medians of interleaved rounds; a ratio above 1 means that the product is slower");
     for feed in feeds() {
         lend(&feed.bytes, &feed.messages);
@@ -321,9 +364,10 @@ fn times() {
             println!("  against {}: {:.2}", against, times[0] / time);
         }
     }
+    say_placing();
     let feed = &feeds()[0];
     lend(&feed.bytes, &feed.messages);
-    let times = measure(&feed.bytes, &feed.messages, &SENDING.iter().map(|way| way.1).collect::<Vec<Way>>(), 41, feed.calls);
+    let times = measure(&feed.bytes, &feed.messages, &only_ways(SENDING), 41, feed.calls);
     println!("writing a {}: {:.1} microseconds", feed.name, times[0] * 1e6);
     println!("  against placing it: {:.2}", times[0] / times[1]);
     say_growth();
@@ -331,7 +375,7 @@ fn times() {
 
 /// One way on one feed, so many times over: what a counter of instructions is run on.
 fn count(way: &str, feed: usize, calls: usize) {
-    let way = WAYS.iter().chain(SENDING).find(|known| known.0 == way).expect("no such way").1;
+    let way = WAYS.iter().chain(PLACING).chain(SENDING).find(|known| known.0 == way).expect("no such way").1;
     let feed = feeds().swap_remove(feed);
     lend(&feed.bytes, &feed.messages);
     for _ in 0..calls {

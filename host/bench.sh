@@ -56,7 +56,7 @@ instructions() { # WAY FEED
   echo $(((count[1] - count[0]) / 2))
 }
 echo "instructions, and the product's as a ratio:"
-for feed in 0 1 2 3 4; do
+for feed in 0 1 2 3 4 5; do
   own=$(instructions product "$feed")
   bytes=$(cut -f 1 build/bench.feed)
   echo "$(cut -f 2 build/bench.feed): $own, $(awk "BEGIN { printf \"%.1f\", $own / $bytes }") a byte of the feed"
@@ -65,6 +65,17 @@ for feed in 0 1 2 3 4; do
     case $way in before) named="the landing before" ;; *) named="the second program" ;; esac
     echo "  against $named: $(awk "BEGIN { printf \"%.3f\", $own / $other }") ($other)"
   done
+done
+ratio() { awk "BEGIN { printf \"%.3f\", $1 / $2 }"; }
+for feed in 0 1 2 3 5; do # the one between is refused
+  placed=$(instructions place "$feed")
+  echo "placing $(cut -f 2 build/bench.feed): $placed, $(awk "BEGIN { printf \"%.1f\", $placed / $(cut -f 1 build/bench.feed) }") a byte of the feed"
+  echo "  against judging: $(ratio "$placed" "$(instructions product "$feed")")"
+  if [ -n "${BEFORE:-}" ]; then
+    before=$(instructions place-before "$feed")
+    echo "  in the landing before, against judging: $(ratio "$before" "$(instructions before "$feed")") ($before)"
+    echo "  against placing in the landing before: $(ratio "$placed" "$before")"
+  fi
 done
 written=$(instructions write 0)
 placed=$(instructions place 0)
