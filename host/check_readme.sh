@@ -11,6 +11,8 @@ $RUN build/readme examples/figure-3-1.opm >build/readme.out
 diff - build/readme.out <<'SAYS'
 row 0: keyword code 1, value 1.0
 row 16: about 65035 tenths
+message 2: reason 2, 0 rows
+the ticket is alive
 the ticket is gone
 message 1 in plain form has 843 bytes
 SAYS

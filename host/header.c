@@ -65,24 +65,29 @@ static void check_desk(void) {
     size_t length = strlen(two), start = (size_t)(strstr(two, "ORIGINATOR = A") - two) + strlen("ORIGINATOR = ");
     uint8_t table[BUFFER];
     odm_placed placed = odm_place(0, 0, feed, length, 1, table, ROOM);
+    odm_judged preview = odm_judge(feed, length, 2); /* the row is read after it */
     odm_row row = odm_read(placed.load, placed.count, placed.load, 4, feed, length, table, ROOM);
     odm_placed refused = odm_place(placed.load, placed.count, feed, length, 2, table, ROOM);
     odm_placed spent = odm_place(UINT32_MAX, 21, feed, length, 2, table, ROOM);
 
-    same("reason of the load", placed.reason, ODM_OK);
+    same("reason of the placing", placed.reason, ODM_OK);
     same("load number", placed.load, 1);
     same("row count", placed.count, 21);
+    same("reason of the preview", preview.reason, ODM_VALUE);
+    same("line of the preview", preview.line, 2);
+    same("row count of the preview", preview.rows, 0);
     same("reason of the row", row.reason, ODM_OK);
     same("code of the row", row.code, 3);
     same("group of the row", row.group, 0);
     same("line of the row", row.line, 6);
     same("start of the row", row.start, start);
     same("length of the row", row.length, 1);
-    same("reason of the load refused", refused.reason, ODM_VALUE);
-    same("line of the load refused", refused.line, 2);
+    same("reason of the placing refused", refused.reason, ODM_VALUE);
+    same("line of the placing refused", refused.line, 2);
     same("load number after it", refused.load, 2);
     same("row count after it", refused.count, 0);
     same("reason for too short a table", odm_place(0, 0, feed, length, 1, table, ROOM - 1).reason, ODM_NO_ROOM);
+    same("row count of its preview", odm_judge(feed, length, 1).rows, 21);
     same("reason at the top load number", spent.reason, ODM_SPENT);
     same("load number after it", spent.load, UINT32_MAX);
     same("row count after it", spent.count, 21);

@@ -56,7 +56,9 @@ typedef struct {
 
 odm_counted odm_headings(const uint8_t *feed, size_t feed_len);
 
-/* A message judged, with nothing loaded. */
+/* A message judged, with nothing placed: a preview moves no desk, fills no table and ends no ticket. Of the same feed and message number odm_place answers the
+ * same reason, line and row count, but for ODM_SPENT and ODM_NO_ROOM, which judging never answers.
+ */
 typedef struct {
     uint32_t reason; /* ODM_OK, or 1 to 11 */
     uint32_t line;   /* for 3 to 11 the line within the message, its heading being line 1; else 0 */
@@ -71,7 +73,8 @@ odm_judged odm_judge(const uint8_t *feed, size_t feed_len, size_t message);
  * The table is lent bytes: four an entry, low byte first; five entries a row: code, group, line, start, length. An acceptance fills the first
  * 20 x count bytes and keeps the others as they came, up to three spare ones at the end with them. A refusal keeps every byte.
  *
- * A ticket is the load number at issue and a row number, from 0. It is answered on the desk that issued it as long as no other load has come.
+ * A ticket is the load number at issue and a row number, from 0. It is answered on the desk that issued it until the next placing, refused or not, that is
+ * not ODM_SPENT: with it the next load begins.
  */
 typedef struct {
     uint32_t load;   /* the next desk's load number: one higher, but as it was on ODM_SPENT */
@@ -96,8 +99,8 @@ typedef struct {
 odm_row odm_read(uint32_t load, uint32_t count, uint32_t ticket_load, uint32_t ticket_row, const uint8_t *feed, size_t feed_len, const uint8_t *table,
                  size_t table_len);
 
-/* A message written out in one plain form, with nothing loaded: KEYWORD=value, META_START and META_STOP, COMMENT with one blank and the text or COMMENT
- * alone, a data line's seven values parted by one blank; an LF between lines and none after the last, no units, no blank lines. Loaded again it gives the
+/* A message written out in one plain form, with nothing placed: KEYWORD=value, META_START and META_STOP, COMMENT with one blank and the text or COMMENT
+ * alone, a data line's seven values parted by one blank; an LF between lines and none after the last, no units, no blank lines. Placed again it gives the
  * same codes, groups and values, and written again the same bytes. It is never longer than the message, so a buffer as long as the feed always has room.
  *
  * On a refusal every byte of the buffer is as it was; else those past the length are.
@@ -132,7 +135,7 @@ odm_rounded odm_round(const uint8_t *text, size_t text_len, uint32_t decimals);
 uint32_t odm_widen(const uint8_t *narrow, size_t narrow_len, uint8_t *wide, size_t wide_len);
 uint32_t odm_narrow(const uint8_t *wide, size_t wide_len, uint8_t *narrow, size_t narrow_len);
 
-/* Why a message is refused, with nothing loaded: where the offending bytes stand in the feed, and what could have stood there instead.
+/* Why a message is refused, with nothing placed: where the offending bytes stand in the feed, and what could have stood there instead.
  *
  * The bytes are: for ODM_LONG the text past its first 254 bytes; for ODM_BYTE the first such byte; for ODM_KEYWORD the keyword; for ODM_VALUE and
  * ODM_TIME_ORDER the value, a number's up to its first blank and in a data line the one field; for ODM_UNIT what follows the number, without blanks about it;
