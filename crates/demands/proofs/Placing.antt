@@ -14,7 +14,7 @@ use Rattle.judge.specs.Message.{judgeOf}
 use Rattle.judge.specs.declared.Judged.{Judged}
 use Rattle.judge.specs.declared.Judged.the-variants.{Accepted, Refused}
 use Rattle.tables.specs.Table.{hostRow}
-use Rattle.desk.specs.Placing.{topLoad, deskAfter, placeOf, placeTable}
+use Rattle.desk.specs.Placing.{topLoad, deskAfter, placeOf}
 use Rattle.rows.specs.Filled.{roomFor, tableAfter}
 use Rattle.desk.specs.declared.Desk.{Desk}
 use Rattle.desk.specs.declared.Placed.{Placed}
@@ -22,7 +22,7 @@ use Rattle.judge.proofs.Laws.{not-both}
 use Rattle.rows.proofs.Fills.{no-room, room-enough, room-right}
 use Rattle.desk.proofs.Reading.{place-spent, place-answer, read-gone}
 use Rattle.demands.proofs.Why.{refused-same, judging-plain}
-use Rattle.demands.specs.Placing.{ticket, RefusedKeeps, SpentKeeps, Host, Call, judging, placing, after, EarlierGone, placings, PreviewKeeps, AsJudged, PlacingJudges, PlacingFills}
+use Rattle.demands.specs.Placing.{ticket, RefusedKeeps, SpentKeeps, Host, Call, judging, placing, placedFor, after, EarlierGone, placings, PreviewKeeps, AsJudged, PlacingJudges, PlacingFills}
 
 module _ (d : Desk) (f : List ℕ) (k bytes : ℕ) where
   -- placing that is not refused as spent
@@ -66,20 +66,20 @@ run-keeps : (cs : List Call) (h : Host) → h .desk .load .0 ≤ after h cs .des
 unfolding after
 run-keeps [] h = omega arith
 run-keeps (judging f k ∷ cs) h = run-keeps cs h
-run-keeps (placing f k t ∷ cs) h = omega (arith, keeps (h .desk) f k (length t), run-keeps cs (record { desk = placeOf (h .desk) f k (length t) .desk; table = placeTable (h .desk) f k t }))
+run-keeps (placing f k t ∷ cs) h = omega (arith, keeps (h .desk) f k (length t), run-keeps cs (placedFor h f k t))
 
 pub earlier-gone : EarlierGone
 unfolding after
 earlier-gone h l g k u cs n f t =
     read-gone (after h (placing g k u ∷ cs) .desk) (ticket (h .desk .load .0) n) f t
-    (λ e. omega (arith, raises (h .desk) g k (length u) l, run-keeps cs (record { desk = placeOf (h .desk) g k (length u) .desk; table = placeTable (h .desk) g k u })))
+    (λ e. omega (arith, raises (h .desk) g k (length u) l, run-keeps cs (placedFor h g k u)))
 
 -- judgements left out of a run change nothing
 left-out : (cs : List Call) (h : Host) → after h cs ≡ after h (placings cs)
 unfolding after placings
 left-out [] h = refl
 left-out (judging f k ∷ cs) h = left-out cs h
-left-out (placing f k t ∷ cs) h = left-out cs (record { desk = placeOf (h .desk) f k (length t) .desk; table = placeTable (h .desk) f k t })
+left-out (placing f k t ∷ cs) h = left-out cs (placedFor h f k t)
 
 pub preview-keeps : PreviewKeeps
 unfolding after

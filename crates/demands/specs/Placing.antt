@@ -42,11 +42,14 @@ pub data Call : Type 0 where
   judging : List ℕ → ℕ → Call
   placing : List ℕ → ℕ → List ℕ → Call
 
--- the host after a run of calls
+-- the host after one placing, and after a run of calls
+abbrev pub placedFor : Host → List ℕ → ℕ → List ℕ → Host
+placedFor h f k t = record { desk = placeOf (h .desk) f k (length t) .desk; table = placeTable (h .desk) f k t }
+
 unfoldable pub after : Host → List Call → Host
 after h [] = h
 after h (judging f k ∷ cs) = after h cs
-after h (placing f k t ∷ cs) = after (record { desk = placeOf (h .desk) f k (length t) .desk; table = placeTable (h .desk) f k t }) cs
+after h (placing f k t ∷ cs) = after (placedFor h f k t) cs
 
 -- "a ticket from a load before the last one not refused as spent hears GONE.": a ticket of the host's desk, after any run of calls that begins with a placing
 -- not refused as spent, whatever the row, the feed and the table
