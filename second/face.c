@@ -26,6 +26,14 @@
  *
  * Explain: u32 kind (8), a feed, u32 how many message numbers, each of them a u64.
  * Answer: for each message number u32 reason, u32 rows, u32 line, u32 start, u32 length, u32 count and four u32 codes.
+ *
+ * Sit:    u32 kind (9), u32 load and u32 count of the desk, a feed, a table as a block, u32 how many acts. Each of them is a ticket, that is u32 1,
+ *         u32 load and u32 row; a preview, that is u32 2, a feed and u64 message number; or a placing of a message of the sitting's feed, that is
+ *         u32 3 and u64 message number. Feed and table are lent from the first act to the last, where they are, and the desk goes into each act as
+ *         it last came back. The feed of a preview is u32 4 and nothing more for the sitting's own; any other has room of its own, and 3 means the
+ *         last one of these.
+ * Answer: for each act as Read has it for a ticket, Judge for a message number and Place for a placing, without the table; then every byte of the
+ *         table.
  */
 #define _DEFAULT_SOURCE
 #include <stddef.h>
@@ -38,8 +46,9 @@
 
 #include "odm.h"
 
-enum { JUDGE = 1, PLACE = 2, READ = 3, WRITE = 4, SAY = 5, WIDEN = 6, NARROW = 7, EXPLAIN = 8 };
-enum { WHOLE = 1, PADDED = 2, AGAIN = 3 };
+enum { JUDGE = 1, PLACE = 2, READ = 3, WRITE = 4, SAY = 5, WIDEN = 6, NARROW = 7, EXPLAIN = 8, SIT = 9 };
+enum { TICKET = 1, PREVIEW = 2, PLACING = 3 };
+enum { WHOLE = 1, PADDED = 2, AGAIN = 3, OWN = 4 };
 enum { BUFFER = 1 << 16 };
 
 static uint8_t in[BUFFER], out[BUFFER];
@@ -178,13 +187,19 @@ typedef struct {
     size_t length;
 } padding;
 
-static padding paddings[256];
+/* Where feeds are laid, whole ones and padded ones by their byte, and the one that was sent last. */
+typedef struct {
+    room room;
+    padding paddings[256];
+    block feed;
+    int is_there;
+} shelf;
 
 /* A padded feed: its front is laid over room that is full of the byte already, so a long one costs no more than its front. */
-static block take_padded(void) {
+static block take_padded(shelf *shelf) {
     block taken = {NULL, take_u32()};
     uint8_t byte = (uint8_t)take_u32();
-    padding *padding = &paddings[byte];
+    padding *padding = &shelf->paddings[byte];
     size_t front = take_u32();
     if (taken.length == 0 || front > taken.length) refuse("a feed whose padding is nothing");
     if (make_room(&padding->room, taken.length)) {
@@ -199,22 +214,31 @@ static block take_padded(void) {
     return taken;
 }
 
-static room feeds, tables, others, buffers, texts;
+static shelf feeds, previewed;
+static room tables, others, buffers, texts;
 
 /* A feed in any form. The one that was sent last is as it was: it is lent to be read alone, and its room is given to no other block. */
-static block take_feed(void) {
-    static block feed;
-    static int is_there;
-    uint32_t form = take_u32();
+static block take_feed_in(shelf *shelf, uint32_t form) {
     if (form == WHOLE) {
-        feed = take_block(&feeds);
+        shelf->feed = take_block(&shelf->room);
     } else if (form == PADDED) {
-        feed = take_padded();
-    } else if (form != AGAIN || !is_there) {
+        shelf->feed = take_padded(shelf);
+    } else if (form != AGAIN || !shelf->is_there) {
         refuse("a feed in an unknown form, or none before");
     }
-    is_there = 1;
-    return feed;
+    shelf->is_there = 1;
+    return shelf->feed;
+}
+
+static block take_feed(void) {
+    return take_feed_in(&feeds, take_u32());
+}
+
+static void judge(block feed, size_t message) {
+    odm_judged judged = odm_judge(feed.bytes, feed.length, message);
+    put_number(judged.reason);
+    put_number(judged.line);
+    put_number(judged.rows);
 }
 
 static void answer_judge(void) {
@@ -222,44 +246,86 @@ static void answer_judge(void) {
     odm_counted counted = odm_headings(feed.bytes, feed.length);
     put_number(counted.reason);
     put_number(counted.count);
-    for (uint32_t left = take_u32(); left > 0; left--) {
-        odm_judged judged = odm_judge(feed.bytes, feed.length, (size_t)take_number(8));
-        put_number(judged.reason);
-        put_number(judged.line);
-        put_number(judged.rows);
-    }
+    for (uint32_t left = take_u32(); left > 0; left--) judge(feed, (size_t)take_number(8));
 }
 
-static void answer_place(void) {
-    uint32_t load = take_u32();
-    uint32_t count = take_u32();
-    block feed = take_feed();
-    size_t message = (size_t)take_number(8);
-    block table = take_block(&tables);
-    odm_placed placed = odm_place(load, count, feed.bytes, feed.length, message, table.bytes, table.length);
+/* The two numbers that a desk is. */
+typedef struct {
+    uint32_t load, count;
+} desk;
+
+static desk take_desk(void) {
+    desk taken;
+    taken.load = take_u32();
+    taken.count = take_u32();
+    return taken;
+}
+
+static desk place(desk desk, block feed, size_t message, block table) {
+    odm_placed placed = odm_place(desk.load, desk.count, feed.bytes, feed.length, message, table.bytes, table.length);
     put_number(placed.load);
     put_number(placed.count);
     put_number(placed.reason);
     put_number(placed.line);
+    desk.load = placed.load;
+    desk.count = placed.count;
+    return desk;
+}
+
+static void answer_place(void) {
+    desk desk = take_desk();
+    block feed = take_feed();
+    size_t message = (size_t)take_number(8);
+    block table = take_block(&tables);
+    place(desk, feed, message, table);
     put_bytes(table.bytes, table.length);
+}
+
+/* Takes a ticket and reads it. */
+static void read_ticket(desk desk, block feed, block table) {
+    uint32_t load = take_u32();
+    uint32_t number = take_u32();
+    odm_row row = odm_read(desk.load, desk.count, load, number, feed.bytes, feed.length, table.bytes, table.length);
+    put_number(row.reason);
+    put_number(row.code);
+    put_number(row.group);
+    put_number(row.line);
+    put_number(row.start);
+    put_number(row.length);
 }
 
 /* The table goes back after all tickets, to show that reading changed nothing. */
 static void answer_read(void) {
-    uint32_t load = take_u32();
-    uint32_t count = take_u32();
+    desk desk = take_desk();
+    block feed = take_feed();
+    block table = take_block(&tables);
+    for (uint32_t left = take_u32(); left > 0; left--) read_ticket(desk, feed, table);
+    put_bytes(table.bytes, table.length);
+}
+
+/* Takes a message to be judged, of the sitting's feed or of one beside it. */
+static void preview(block own) {
+    uint32_t form = take_u32();
+    block feed = form == OWN ? own : take_feed_in(&previewed, form);
+    judge(feed, (size_t)take_number(8));
+}
+
+/* The host of one desk: what is lent stays where it is, whatever is previewed, and the desk is handed on. */
+static void answer_sit(void) {
+    desk desk = take_desk();
     block feed = take_feed();
     block table = take_block(&tables);
     for (uint32_t left = take_u32(); left > 0; left--) {
-        uint32_t ticket_load = take_u32();
-        uint32_t ticket_row = take_u32();
-        odm_row row = odm_read(load, count, ticket_load, ticket_row, feed.bytes, feed.length, table.bytes, table.length);
-        put_number(row.reason);
-        put_number(row.code);
-        put_number(row.group);
-        put_number(row.line);
-        put_number(row.start);
-        put_number(row.length);
+        uint32_t act = take_u32();
+        if (act == TICKET) {
+            read_ticket(desk, feed, table);
+        } else if (act == PREVIEW) {
+            preview(feed);
+        } else if (act == PLACING) {
+            desk = place(desk, feed, (size_t)take_number(8), table);
+        } else {
+            refuse("an act of an unknown kind");
+        }
     }
     put_bytes(table.bytes, table.length);
 }
@@ -329,6 +395,8 @@ int main(void) {
             answer_move(odm_narrow);
         } else if (kind == EXPLAIN) {
             answer_explain();
+        } else if (kind == SIT) {
+            answer_sit();
         } else {
             refuse("a request of an unknown kind");
         }

@@ -1,4 +1,4 @@
-//! Desk, table and tickets. Nothing is changed in place: a load answers with the next desk and a whole new table.
+//! Desk, table and tickets. Nothing is changed in place: a placing answers with the next desk and a whole new table.
 //! A table is an image, a list of 32-bit numbers with at most three bytes over, and the new image is laid over the old one.
 
 use crate::bytes::Bytes;
@@ -46,22 +46,36 @@ pub struct Ticket {
     pub row: u32,
 }
 
-/// All that goes into a load.
+/// All that goes into a placing.
 #[derive(Clone, Debug)]
-pub struct Load {
+pub struct Placing {
     pub desk: Desk,
     pub feed: Bytes,
     pub message: u64,
     pub table: Vec<u8>,
 }
 
-/// All that comes out of a load.
+/// All that comes out of a placing.
 #[derive(Clone, Debug, PartialEq, Eq)]
 pub struct Placed {
     pub desk: Desk,
     pub reason: u32,
     pub line: u32,
     pub table: Vec<u8>,
+}
+
+/// The same but for the table: the next desk, and the reason with its line.
+#[derive(Clone, Copy, Debug, PartialEq, Eq)]
+pub struct Outcome {
+    pub desk: Desk,
+    pub reason: u32,
+    pub line: u32,
+}
+
+impl Placed {
+    pub fn outcome(&self) -> Outcome {
+        Outcome { desk: self.desk, reason: self.reason, line: self.line }
+    }
 }
 
 /// Tickets to be read one after the other, with one feed and one table.
@@ -77,13 +91,13 @@ pub struct Reading {
 pub type Heard = Result<Row, u32>;
 
 /// A table's whole entries, and what is left over: up to three bytes.
-struct Image {
+pub(crate) struct Image {
     entries: Vec<u32>,
     over: Vec<u8>,
 }
 
 impl Image {
-    fn of(table: &[u8]) -> Image {
+    pub(crate) fn of(table: &[u8]) -> Image {
         let fours = table.chunks_exact(4);
         let over = fours.remainder().to_vec();
         // The highest byte is the last, so a number is told from there on.
@@ -114,15 +128,15 @@ fn entries(row: &Row) -> [u32; 5] {
     [row.code, row.group, row.line, row.start, row.length]
 }
 
-/// What a load comes to.
-pub fn place(load: &Load) -> Placed {
-    let Load { desk, table, .. } = load;
+/// What a placing comes to: the message is judged, the table filled and the desk moved on.
+pub fn place(placing: &Placing) -> Placed {
+    let Placing { desk, table, .. } = placing;
     // Only a desk at its top has no next number, and it stays as it is.
     let Some(next) = desk.load.checked_add(1) else {
         return Placed { desk: *desk, reason: SPENT, line: 0, table: table.clone() };
     };
     let after = |count, reason, line, table| Placed { desk: Desk { load: next, count }, reason, line, table };
-    match judge(&load.feed, load.message) {
+    match judge(&placing.feed, placing.message) {
         Answer::Refused { reason, line } => after(0, reason.number(), small(line), table.clone()),
         Answer::Accepted(rows) => match Image::of(table).under(rows.iter().flat_map(entries).collect()) {
             None => after(0, NO_ROOM, 0, table.clone()),
@@ -142,11 +156,19 @@ pub fn read(reading: &Reading) -> Vec<Heard> {
 }
 
 /// Document 01's checks in its order: the first one failed is told.
-fn hear(desk: Desk, ticket: Ticket, feed: &[u8], image: &Image) -> Heard {
+pub(crate) fn hear(desk: Desk, ticket: Ticket, feed: &[u8], image: &Image) -> Heard {
     let checks = [(ticket.load == desk.load, GONE), (ticket.row < desk.count, NO_ROW)];
     match checks.into_iter().find(|(passed, _)| !passed) {
         Some((_, reason)) => Err(reason),
         None => image.row(ticket.row).filter(|row| value(feed, row).is_some()).ok_or(ASTRAY),
+    }
+}
+
+/// The numbers of the C struct; on a refusal all but the reason are 0.
+pub fn as_told(heard: &Heard) -> [u32; 6] {
+    match heard {
+        Ok(Row { code, group, line, start, length }) => [FINE, *code, *group, *line, *start, *length],
+        Err(reason) => [*reason, 0, 0, 0, 0, 0],
     }
 }
 

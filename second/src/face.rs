@@ -1,14 +1,17 @@
 //! Asks the product's C face, which runs as a child process, for its answers.
 //!
-//! There is a kind of request for each thing that is asked: judging, placing, reading, writing, saying, widening, narrowing and explaining. Tables,
-//! buffers and texts go over whole, and so do the tables and the buffer on their way back. A feed goes over once for all that is asked about it in a
-//! row, and its padding not at all. `face.c` says byte by byte what a request and its answer are.
+//! There is a kind of request for each thing that is asked: judging, placing, reading, writing, saying, widening, narrowing and explaining; and one
+//! for a sitting, so that what is lent stays where it is from the first act to the last. Tables, buffers and texts go over whole, and so do the
+//! tables and the buffer on their way back. A feed goes over once for all that is asked about it in a row, and its padding not at all. `face.c` says
+//! byte by byte what a request and its answer are.
 
 use crate::bytes::{Bytes, Padded};
-use crate::desk::{Desk, Load, Reading};
+use crate::desk::{Desk, Outcome, Placing, Reading, Ticket};
 use crate::judge::{Explained, MOST_CODES};
+use crate::preview::Judged;
 use crate::say::{Said, Saying};
 use crate::send::{Sending, Sent};
+use crate::sitting::{Act, Reply, Sat, Sitting};
 use crate::widths::{Moved, Moving, Way};
 use std::io::{BufReader, Read, Write};
 use std::process::{Child, ChildStdin, ChildStdout, Command, Stdio};
@@ -24,19 +27,18 @@ const SAY: u32 = 5;
 const WIDEN: u32 = 6;
 const NARROW: u32 = 7;
 const EXPLAIN: u32 = 8;
+const SIT: u32 = 9;
+
+/// The acts of a sitting.
+const TICKET: u32 = 1;
+const PREVIEW: u32 = 2;
+const PLACING: u32 = 3;
 
 /// The forms of a feed.
 const WHOLE: u32 = 1;
 const PADDED: u32 = 2;
 const AGAIN: u32 = 3;
-
-/// What the face says of one message: reason, line and rows, as the C struct has them.
-#[derive(Clone, Copy, Debug, PartialEq, Eq)]
-pub struct Judged {
-    pub reason: u32,
-    pub line: u32,
-    pub rows: u32,
-}
+const OWN: u32 = 4;
 
 /// What the face says of one feed.
 #[derive(Clone, Debug, PartialEq, Eq)]
@@ -46,9 +48,9 @@ pub struct Told {
     pub judged: Vec<Judged>,
 }
 
-/// What the face says of a load: the numbers of the C struct, in its order, and the table as it is then.
+/// What the face says of a placing: the numbers of the C struct, in its order, and the table as it is then.
 #[derive(Clone, Debug, PartialEq, Eq)]
-pub struct ToldLoad {
+pub struct ToldPlacing {
     pub numbers: [u32; 4],
     pub table: Vec<u8>,
 }
@@ -101,17 +103,18 @@ impl Face {
     /// The next answer, for a request to judge so many messages.
     pub fn next_judged(&mut self, messages: usize) -> Result<Told, String> {
         let [reason, count] = self.numbers()?;
-        let mut judged = Vec::with_capacity(messages);
-        for _ in 0..messages {
-            let [reason, line, rows] = self.numbers()?;
-            judged.push(Judged { reason, line, rows });
-        }
+        let judged = (0..messages).map(|_| self.judged()).collect::<Result<_, _>>()?;
         Ok(Told { reason, count, judged })
     }
 
+    fn judged(&mut self) -> Result<Judged, String> {
+        let [reason, line, rows] = self.numbers()?;
+        Ok(Judged { reason, line, rows })
+    }
+
     /// The next answer, for a request to place.
-    pub fn next_placed(&mut self, load: &Load) -> Result<ToldLoad, String> {
-        Ok(ToldLoad { numbers: self.numbers()?, table: self.bytes(load.table.len())? })
+    pub fn next_placed(&mut self, placing: &Placing) -> Result<ToldPlacing, String> {
+        Ok(ToldPlacing { numbers: self.numbers()?, table: self.bytes(placing.table.len())? })
     }
 
     /// The next answer, for a request to read.
@@ -150,6 +153,23 @@ impl Face {
         let [reason, rows, line, start, length, count] = self.numbers()?;
         let codes = self.numbers::<MOST_CODES>()?;
         Ok(Explained { reason, rows, line, start, length, count, codes })
+    }
+
+    /// The next answer, for a request to sit.
+    pub fn next_sat(&mut self, sitting: &Sitting) -> Result<Sat, String> {
+        let replies = sitting.acts.iter().map(|act| self.reply(act)).collect::<Result<_, _>>()?;
+        Ok(Sat { replies, table: self.bytes(sitting.table.len())? })
+    }
+
+    fn reply(&mut self, act: &Act) -> Result<Reply, String> {
+        Ok(match act {
+            Act::Ticket(_) => Reply::Row(self.numbers()?),
+            Act::Preview(_) => Reply::Judged(self.judged()?),
+            Act::Place(_) => {
+                let [load, count, reason, line] = self.numbers()?;
+                Reply::Placed(Outcome { desk: Desk { load, count }, reason, line })
+            }
+        })
     }
 
     fn numbers<const N: usize>(&mut self) -> Result<[u32; N], String> {
@@ -213,12 +233,15 @@ fn start_writer(mut stdin: ChildStdin) -> (SyncSender<Vec<u8>>, JoinHandle<()>) 
     (requests, writer)
 }
 
-/// Requests as they are gathered, with the feed that the face has from the request before, so that it is not sent twice.
+/// Requests as they are gathered, with the feeds that the face has from before, so that none is sent twice.
 /// They are those of one face, from its first request on.
 #[derive(Default)]
 pub struct Requests {
     bytes: Vec<u8>,
+    /// The feed of the request before.
     held: Option<Bytes>,
+    /// The last feed of a preview that was not its sitting's own.
+    previewed: Option<Bytes>,
 }
 
 impl Requests {
@@ -241,12 +264,12 @@ impl Requests {
     }
 
     /// Adds a request to place a message.
-    pub fn add_place(&mut self, load: &Load) {
+    pub fn add_place(&mut self, placing: &Placing) {
         self.add_number(PLACE);
-        self.add_desk(load.desk);
-        self.add_feed(&load.feed);
-        self.add_message(load.message);
-        self.add_block(&load.table);
+        self.add_desk(placing.desk);
+        self.add_feed(&placing.feed);
+        self.add_message(placing.message);
+        self.add_block(&placing.table);
     }
 
     /// Adds a request to read tickets.
@@ -256,9 +279,34 @@ impl Requests {
         self.add_feed(&reading.feed);
         self.add_block(&reading.table);
         self.add_size(reading.tickets.len());
-        for ticket in &reading.tickets {
-            self.add_number(ticket.load);
-            self.add_number(ticket.row);
+        reading.tickets.iter().for_each(|ticket| self.add_ticket(*ticket));
+    }
+
+    /// Adds a request to sit.
+    pub fn add_sit(&mut self, sitting: &Sitting) {
+        self.add_number(SIT);
+        self.add_desk(sitting.desk);
+        self.add_feed(&sitting.feed);
+        self.add_block(&sitting.table);
+        self.add_size(sitting.acts.len());
+        sitting.acts.iter().for_each(|act| self.add_act(&sitting.feed, act));
+    }
+
+    fn add_act(&mut self, own: &Bytes, act: &Act) {
+        match act {
+            Act::Ticket(ticket) => {
+                self.add_number(TICKET);
+                self.add_ticket(*ticket);
+            }
+            Act::Preview(message) => {
+                self.add_number(PREVIEW);
+                self.add_previewed(own, &message.feed);
+                self.add_message(message.number);
+            }
+            Act::Place(message) => {
+                self.add_number(PLACING);
+                self.add_message(*message);
+            }
         }
     }
 
@@ -312,6 +360,11 @@ impl Requests {
         self.add_number(desk.count);
     }
 
+    fn add_ticket(&mut self, ticket: Ticket) {
+        self.add_number(ticket.load);
+        self.add_number(ticket.row);
+    }
+
     fn add_block(&mut self, bytes: &[u8]) {
         self.add_size(bytes.len());
         self.bytes.extend_from_slice(bytes);
@@ -323,6 +376,22 @@ impl Requests {
             return self.add_number(AGAIN);
         }
         self.held = Some(feed.clone());
+        self.add_new_feed(feed);
+    }
+
+    /// The feed of a preview, which has a room beside that of the sitting's own.
+    fn add_previewed(&mut self, own: &Bytes, feed: &Bytes) {
+        if feed.is(own) {
+            return self.add_number(OWN);
+        }
+        if self.previewed.as_ref().is_some_and(|held| held.is(feed)) {
+            return self.add_number(AGAIN);
+        }
+        self.previewed = Some(feed.clone());
+        self.add_new_feed(feed);
+    }
+
+    fn add_new_feed(&mut self, feed: &Bytes) {
         match feed.padding() {
             None => {
                 self.add_number(WHOLE);
@@ -341,7 +410,7 @@ impl Requests {
 #[cfg(test)]
 mod tests {
     use super::*;
-    use crate::desk::Ticket;
+    use crate::preview::Message;
 
     #[test]
     fn a_request_to_judge_is_written_low_byte_first() {
@@ -355,7 +424,7 @@ mod tests {
     fn a_request_to_place_is_written_low_byte_first() {
         let mut requests = Requests::default();
         let desk = Desk { load: 0x0304, count: 5 };
-        requests.add_place(&Load { desk, feed: b"ab"[..].into(), message: 0x0607, table: vec![9] });
+        requests.add_place(&Placing { desk, feed: b"ab"[..].into(), message: 0x0607, table: vec![9] });
         let feed = [1, 0, 0, 0, 2, 0, 0, 0, b'a', b'b'];
         let message = [7, 6, 0, 0, 0, 0, 0, 0];
         assert_eq!(requests.take(), [&[2, 0, 0, 0, 4, 3, 0, 0, 5, 0, 0, 0][..], &feed, &message, &[1, 0, 0, 0, 9]].concat());
@@ -368,6 +437,52 @@ mod tests {
         requests.add_read(&Reading { desk: Desk { load: 4, count: 5 }, feed: b"a"[..].into(), table: Vec::new(), tickets });
         let blocks = [1, 0, 0, 0, 1, 0, 0, 0, b'a', 0, 0, 0, 0];
         assert_eq!(requests.take(), [&[3, 0, 0, 0, 4, 0, 0, 0, 5, 0, 0, 0][..], &blocks, &[1, 0, 0, 0, 2, 1, 0, 0, 3, 0, 0, 0]].concat());
+    }
+
+    /// A sitting with a ticket, a preview of this feed and of another, twice, and a placing.
+    fn sitting(own: &Bytes, other: &Bytes) -> Sitting {
+        let preview = |feed: &Bytes| Act::Preview(Message { feed: feed.clone(), number: 0x0607 });
+        let acts = vec![Act::Ticket(Ticket { load: 0x0102, row: 3 }), preview(own), preview(other), preview(other), Act::Place(0x0809)];
+        Sitting { desk: Desk { load: 4, count: 5 }, feed: own.clone(), table: vec![9], acts }
+    }
+
+    #[test]
+    fn a_request_to_sit_is_written_act_by_act() {
+        let mut requests = Requests::default();
+        let (own, other): (Bytes, Bytes) = (b"ab"[..].into(), b"c"[..].into());
+        requests.add_sit(&sitting(&own, &other));
+        let head = [9, 0, 0, 0, 4, 0, 0, 0, 5, 0, 0, 0];
+        let (feed, table) = ([1, 0, 0, 0, 2, 0, 0, 0, b'a', b'b'], [1, 0, 0, 0, 9, 5, 0, 0, 0]);
+        let ticket = [1, 0, 0, 0, 2, 1, 0, 0, 3, 0, 0, 0];
+        let number = [7, 6, 0, 0, 0, 0, 0, 0];
+        let of_own = [&[2, 0, 0, 0, 4, 0, 0, 0][..], &number].concat();
+        let of_other = [&[2, 0, 0, 0, 1, 0, 0, 0, 1, 0, 0, 0, b'c'][..], &number].concat();
+        let of_same = [&[2, 0, 0, 0, 3, 0, 0, 0][..], &number].concat();
+        let placing = [3, 0, 0, 0, 9, 8, 0, 0, 0, 0, 0, 0];
+        assert_eq!(requests.take(), [&head[..], &feed, &table, &ticket, &of_own, &of_other, &of_same, &placing].concat());
+        // Each of the two is where it was, whatever came to the other's room.
+        requests.add_sit(&sitting(&own, &other));
+        let again = [3, 0, 0, 0];
+        assert_eq!(requests.take(), [&head[..], &again, &table, &ticket, &of_own, &of_same, &of_same, &placing].concat());
+        requests.add_sit(&sitting(&other, &own));
+        let (feed, of_own_now) =
+            ([1, 0, 0, 0, 1, 0, 0, 0, b'c'], [&[2, 0, 0, 0, 1, 0, 0, 0, 2, 0, 0, 0, b'a', b'b'][..], &number].concat());
+        assert_eq!(requests.take(), [&head[..], &feed, &table, &ticket, &of_own, &of_own_now, &of_same, &placing].concat());
+    }
+
+    #[test]
+    fn what_a_sitting_is_answered_is_read_act_by_act() {
+        // This face says what it hears.
+        let mut face = Face::start(&["cat".to_string()]).expect("started");
+        let numbers: Vec<u32> = (1..=19).map(|at| at * 0x0100_0001).collect();
+        face.send(numbers.iter().flat_map(|number| number.to_le_bytes()).chain([7]).collect());
+        let told = face.next_sat(&sitting(&b"ab"[..].into(), &b"c"[..].into())).expect("answered");
+        let judged = |at: usize| Reply::Judged(Judged { reason: numbers[at], line: numbers[at + 1], rows: numbers[at + 2] });
+        let desk = Desk { load: numbers[15], count: numbers[16] };
+        let placed = Reply::Placed(Outcome { desk, reason: numbers[17], line: numbers[18] });
+        let row = [numbers[0], numbers[1], numbers[2], numbers[3], numbers[4], numbers[5]];
+        assert_eq!(told, Sat { replies: vec![Reply::Row(row), judged(6), judged(9), judged(12), placed], table: vec![7] });
+        assert_eq!(face.finish(), Ok(()));
     }
 
     #[test]

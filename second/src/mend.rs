@@ -41,7 +41,7 @@ impl Said<'_> {
     fn line_fault(&self, reason: Reason, line: usize) -> Option<&'static str> {
         let said = self.explained;
         if (said.reason, said.rows, said.line) != (reason.number(), 0, line as u32) {
-            return Some("reason and line are not those of the load, or rows are not 0");
+            return Some("reason and line are not those of judging, or rows are not 0");
         }
         if !matches!(reason, Reason::Order | Reason::Short) && (said.count, said.codes) != (0, [0; 4]) {
             return Some("codes are due to ORDER and SHORT alone");

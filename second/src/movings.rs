@@ -137,7 +137,7 @@ fn round(dice: &mut Dice) -> Round {
     Round { reading: Reading { desk, feed, table: widen.known.into.clone(), tickets }, heard, widen, narrow }
 }
 
-/// Gives most rows a span that lies in the feed, as a load would have.
+/// Gives most rows a span that lies in the feed, as a placing would have.
 fn mend_spans(numbers: &mut [u32], feed: usize, dice: &mut Dice) {
     let feed = feed.min(65_535);
     for five in numbers.chunks_exact_mut(5) {

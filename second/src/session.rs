@@ -1,36 +1,44 @@
-//! Makes sessions on one desk: loads one after the other, and after each load tickets, with feed and table at times not as it left them.
-//! Every answer is foretold without the desk's own code: a load's table is written byte after byte, and what a ticket hears comes from
+//! Makes sessions on one desk: placings one after the other, and after each placing tickets, with feed and table at times not as it left them, and
+//! previews among them.
+//! Every answer is foretold without the desk's own code: a placing's table is written byte after byte, and what a ticket hears comes from
 //! the judge's rows and the lengths of feed and table alone.
 
 use crate::bytes::Bytes;
-use crate::desk::{Desk, Heard, Load, Placed, Reading, Ticket, ASTRAY, FINE, FRESH, GONE, NO_ROOM, NO_ROW, SPENT};
+use crate::desk::{Desk, Heard, Placed, Placing, Reading, Ticket, ASTRAY, FINE, FRESH, GONE, NO_ROOM, NO_ROW, SPENT};
 use crate::dice::Dice;
 use crate::judge::{Answer, Feed, Row, FEED_LIMIT};
+use crate::sitting::{Foretold, Sitting};
+use crate::sittings::{with_previews, Lent};
 
-/// A call on the desk, and what must be answered; of a ticket on bytes that no load has written nothing is foretold.
+/// A call on the desk, and what must be answered; of a ticket on bytes that no placing has written nothing is foretold.
 pub enum Step {
-    Load(Load, Placed),
+    Place(Placing, Placed),
     Read(Reading, Vec<Option<Heard>>),
+    Sit(Sitting, Foretold),
 }
 
 const TOP: u32 = u32::MAX;
 
-/// So many in a thousand feeds that are lengthened for a reading are then longer than a load would take.
+/// So many in a thousand feeds that are lengthened for a reading are then longer than a placing would take.
 const OVER: usize = 30;
 
-/// A session with these feeds; most loads are of the first one.
-pub fn session(feeds: &[Bytes], dice: &mut Dice) -> Vec<Step> {
+/// A session with these feeds; most placings are of the first one. The previews have dice of their own.
+pub fn session(feeds: &[Lent], dice: &mut Dice, luck: &mut Dice) -> Vec<Step> {
+    with_previews(placings_and_tickets(feeds, dice), feeds, luck)
+}
+
+fn placings_and_tickets(feeds: &[Lent], dice: &mut Dice) -> Vec<Step> {
     let desk = any_desk(dice);
     let size = dice.below(600);
     let table = any_bytes(dice, size);
     // What a desk holds that comes from elsewhere is not known.
     let rows = (desk.count == 0).then(Vec::new);
-    let mut session = Session { dice, feeds, desk, feed: feeds[0].clone(), table, rows, kept: Vec::new(), steps: Vec::new() };
+    let mut session = Session { dice, feeds, desk, feed: feeds[0].feed.clone(), table, rows, kept: Vec::new(), steps: Vec::new() };
     if session.dice.percent(if desk == FRESH { 20 } else { 60 }) {
         session.read();
     }
     for _ in 0..session.dice.pick(&[1, 2, 2, 3, 3, 4, 6]) {
-        session.load();
+        session.place();
         (0..session.dice.pick(&[1, 1, 2])).for_each(|_| session.read());
     }
     session.steps
@@ -47,6 +55,14 @@ fn any_desk(dice: &mut Dice) -> Desk {
     }
 }
 
+/// Mostly a message that there is, of so many.
+pub(crate) fn any_number(count: u64, dice: &mut Dice) -> u64 {
+    if count > 0 && dice.percent(92) {
+        return 1 + dice.below(count as usize) as u64;
+    }
+    dice.pick(&[0, count + 1, count + 1, count + 2, 65_537, (1 << 32) + 1, 1 << 63, u64::MAX])
+}
+
 fn any_bytes(dice: &mut Dice, size: usize) -> Vec<u8> {
     (0..size).map(|_| dice.byte()).collect()
 }
@@ -54,9 +70,9 @@ fn any_bytes(dice: &mut Dice, size: usize) -> Vec<u8> {
 /// A session as it goes on.
 struct Session<'s> {
     dice: &'s mut Dice,
-    feeds: &'s [Bytes],
+    feeds: &'s [Lent],
     desk: Desk,
-    /// The feed and the table of the last load that was not refused as spent.
+    /// The feed and the table of the last placing that was not refused as spent.
     feed: Bytes,
     table: Vec<u8>,
     /// The rows that the desk holds, if that is known.
@@ -67,19 +83,20 @@ struct Session<'s> {
 }
 
 impl Session<'_> {
-    fn load(&mut self) {
-        let feed = if self.dice.percent(60) { self.feeds[0].clone() } else { self.feeds[self.dice.below(self.feeds.len())].clone() };
+    fn place(&mut self) {
+        let at = if self.dice.percent(60) { 0 } else { self.dice.below(self.feeds.len()) };
+        let feed = self.feeds[at].feed.clone();
         let lines = Feed::new(&feed);
         // A feed that is too long counts as one without messages, so that any number is asked for.
-        let message = self.message(lines.headings().unwrap_or(0) as u64);
+        let message = any_number(lines.headings().unwrap_or(0) as u64, self.dice);
         let judged = lines.judge(message);
         let rows = if let Answer::Accepted(rows) = &judged { rows.len() } else { self.dice.below(40) };
-        let load = Load { desk: self.desk, feed: feed.clone(), message, table: self.table_for(20 * rows) };
-        let placed = foretold_load(&load, &judged);
+        let placing = Placing { desk: self.desk, feed: feed.clone(), message, table: self.table_for(20 * rows) };
+        let placed = foretold_placing(&placing, &judged);
         if placed.reason != SPENT {
             self.go_on(feed, &placed, judged);
         }
-        self.steps.push(Step::Load(load, placed));
+        self.steps.push(Step::Place(placing, placed));
     }
 
     /// The desk and the table that came back are handed on, and some tickets are kept.
@@ -94,14 +111,6 @@ impl Session<'_> {
         for _ in 0..self.dice.below(3) {
             self.kept.push(Ticket { load: self.desk.load, row: self.dice.below(self.desk.count as usize) as u32 });
         }
-    }
-
-    /// Mostly a message that there is.
-    fn message(&mut self, count: u64) -> u64 {
-        if count > 0 && self.dice.percent(92) {
-            return 1 + self.dice.below(count as usize) as u64;
-        }
-        self.dice.pick(&[0, count + 1, count + 1, count + 2, 65_537, (1 << 32) + 1, 1 << 63, u64::MAX])
     }
 
     /// A table of about as many bytes as are needed: the one at hand, cut or lengthened, or any other.
@@ -168,7 +177,7 @@ impl Session<'_> {
                 let size = if self.dice.below(1000) < OVER { feed.len().max(FEED_LIMIT) } else { feed.len() };
                 Bytes::padded(&feed[..], size + self.dice.between(1, 200), b' ')
             }
-            (8, _) => self.feeds[self.dice.below(self.feeds.len())].clone(),
+            (8, _) => self.feeds[self.dice.below(self.feeds.len())].feed.clone(),
             _ => feed,
         }
     }
@@ -193,7 +202,7 @@ impl Session<'_> {
         (table, false)
     }
 
-    /// Gives a row numbers that no load would have given it.
+    /// Gives a row numbers that no placing would have given it.
     fn change_numbers(&mut self, table: &mut [u8], aim: usize, feed: usize) {
         let feed = feed as u32;
         for four in table.chunks_exact_mut(4).skip(5 * aim).take(5) {
@@ -223,16 +232,16 @@ fn end(row: &Row) -> usize {
     row.start as usize + row.length as usize
 }
 
-/// What a load must come to, by what the judge says of its message.
-fn foretold_load(load: &Load, judged: &Answer) -> Placed {
-    let mut placed = Placed { desk: load.desk, reason: SPENT, line: 0, table: load.table.clone() };
-    if load.desk.load == TOP {
+/// What a placing must come to, by what the judge says of its message.
+fn foretold_placing(placing: &Placing, judged: &Answer) -> Placed {
+    let mut placed = Placed { desk: placing.desk, reason: SPENT, line: 0, table: placing.table.clone() };
+    if placing.desk.load == TOP {
         return placed;
     }
-    placed.desk = Desk { load: load.desk.load + 1, count: 0 };
+    placed.desk = Desk { load: placing.desk.load + 1, count: 0 };
     match judged {
         Answer::Refused { reason, line } => (placed.reason, placed.line) = (reason.number(), *line as u32),
-        Answer::Accepted(rows) if load.table.len() < 20 * rows.len() => placed.reason = NO_ROOM,
+        Answer::Accepted(rows) if placing.table.len() < 20 * rows.len() => placed.reason = NO_ROOM,
         Answer::Accepted(rows) => {
             placed.reason = FINE;
             placed.desk.count = rows.len() as u32;
@@ -253,13 +262,23 @@ fn write_rows(table: &mut [u8], rows: &[Row]) {
 #[cfg(test)]
 mod tests {
     use super::*;
-    use crate::desk::{place, read};
-    use crate::make::{draft, write};
+    use crate::desk::{as_told, place, read};
+    use crate::make::{draft, write, Written};
+    use crate::sitting::{sit, Act, Reply};
+
+    /// Two sound feeds, and whether they are told to be.
+    fn any_feeds(turn: u64, dice: &mut Dice) -> Vec<Lent> {
+        let lent = |Written { feed, rows, .. }: Written| Lent {
+            feed: feed.into(),
+            rows: (turn % 2 == 0).then(|| rows.iter().map(Vec::len).collect()),
+        };
+        (0..2).map(|_| lent(write(&draft(dice), dice))).collect()
+    }
 
     fn any_session(turn: u64) -> Vec<Step> {
         let mut dice = Dice::new(17, turn);
-        let feeds: Vec<Bytes> = (0..2).map(|_| write(&draft(&mut dice), &mut dice).feed.into()).collect();
-        session(&feeds, &mut dice)
+        let feeds = any_feeds(turn, &mut dice);
+        session(&feeds, &mut dice, &mut Dice::new(18, turn))
     }
 
     #[test]
@@ -267,14 +286,56 @@ mod tests {
         for turn in 0..300 {
             for step in any_session(turn) {
                 match step {
-                    Step::Load(load, placed) => assert_eq!(place(&load), placed, "turn {turn}"),
+                    Step::Place(placing, placed) => assert_eq!(place(&placing), placed, "turn {turn}"),
                     Step::Read(reading, known) => {
                         let heard = read(&reading);
                         known.iter().zip(heard).for_each(|(known, heard)| assert!(known.is_none_or(|known| known == heard), "turn {turn}"));
                     }
+                    Step::Sit(sitting, Foretold { replies, table, .. }) => {
+                        let sat = sit(&sitting);
+                        replies.iter().zip(sat.replies).for_each(|(known, reply)| {
+                            assert!(known.is_none_or(|known| known == reply), "turn {turn}");
+                        });
+                        assert_eq!(sat.table, table.unwrap_or(sitting.table), "turn {turn}");
+                    }
                 }
             }
         }
+    }
+
+    /// A step without its previews: what is lent, and the acts from the first preview on with what is foretold of them.
+    fn plain(step: &Step) -> (Desk, &[u8], &[u8], Vec<String>) {
+        let words = |(act, reply): (&Act, Option<Reply>)| format!("{act:?}: {reply:?}");
+        match step {
+            Step::Place(Placing { desk, feed, message, table }, placed) => {
+                (*desk, feed, table, vec![words((&Act::Place(*message), Some(Reply::Placed(placed.outcome()))))])
+            }
+            Step::Read(Reading { desk, feed, table, tickets }, heard) => {
+                let told = heard.iter().map(|heard| heard.map(|heard| Reply::Row(as_told(&heard))));
+                let acts: Vec<Act> = tickets.iter().copied().map(Act::Ticket).collect();
+                (*desk, feed, table, acts.iter().zip(told).map(words).collect())
+            }
+            Step::Sit(Sitting { desk, feed, table, acts }, foretold) => {
+                let is_preview = |act: &Act| matches!(act, Act::Preview(_));
+                let turns = acts.iter().zip(foretold.replies.iter().copied()).skip_while(|(act, _)| !is_preview(act));
+                (*desk, feed, table, turns.filter(|(act, _)| !is_preview(act)).map(words).collect())
+            }
+        }
+    }
+
+    #[test]
+    fn previews_leave_a_session_as_it_is() {
+        let mut sittings = 0;
+        for turn in 0..100 {
+            let mut dice = Dice::new(17, turn);
+            let feeds = any_feeds(turn, &mut dice);
+            let before = placings_and_tickets(&feeds, &mut dice.clone());
+            let with = session(&feeds, &mut dice, &mut Dice::new(18, turn));
+            assert_eq!(with.len(), before.len(), "turn {turn}");
+            with.iter().zip(&before).for_each(|(with, before)| assert_eq!(plain(with), plain(before), "turn {turn}"));
+            sittings += with.iter().filter(|step| matches!(step, Step::Sit(..))).count();
+        }
+        assert!(sittings > 100, "{sittings} sittings");
     }
 
     #[test]
@@ -283,8 +344,16 @@ mod tests {
             let mut desk = None;
             for step in any_session(turn) {
                 let (before, after) = match &step {
-                    Step::Load(load, placed) => (load.desk, placed.desk),
+                    Step::Place(placing, placed) => (placing.desk, placed.desk),
                     Step::Read(reading, _) => (reading.desk, reading.desk),
+                    Step::Sit(sitting, foretold) => {
+                        let placed =
+                            foretold
+                                .replies
+                                .iter()
+                                .find_map(|reply| if let Some(Reply::Placed(to)) = reply { Some(to.desk) } else { None });
+                        (sitting.desk, placed.unwrap_or(sitting.desk))
+                    }
                 };
                 assert_eq!(*desk.get_or_insert(before), before, "turn {turn}");
                 desk = Some(after);

@@ -1,8 +1,8 @@
-//! Makes writings of a feed's messages, on buffers of about the length needed, and has some of what goes out loaded and written again.
+//! Makes writings of a feed's messages, on buffers of about the length needed, and has some of what goes out placed and written again.
 //! A sound message is foretold by the maker's own text, put into the buffer byte after byte, without judge or writer.
 
 use crate::bytes::Bytes;
-use crate::desk::{Load, FINE, FRESH, NO_ROOM};
+use crate::desk::{Placing, FINE, FRESH, NO_ROOM};
 use crate::dice::Dice;
 use crate::judge::{Answer, Feed, Reason};
 use crate::send::{outgoing_as, Outgoing, Sending, Sent};
@@ -26,10 +26,10 @@ pub struct Writing {
     pub known: Option<Sent>,
 }
 
-/// A message's first load, and what went out for it to be loaded and written again.
+/// A message's first placing, and what went out for it to be placed and written again.
 pub struct Again {
-    pub first: Load,
-    pub then: Load,
+    pub first: Placing,
+    pub then: Placing,
     pub sending: Sending,
 }
 
@@ -60,22 +60,22 @@ impl Letter {
         Writing { letter: self.clone(), sending, known }
     }
 
-    /// Loads with just enough room for the message and for what goes out for it; nothing, if nothing goes out.
+    /// Placings with just enough room for the message and for what goes out for it; nothing, if nothing goes out.
     pub fn again(&self, buffer: impl Fn(usize) -> Vec<u8>) -> Option<Again> {
         let out: Bytes = self.outgoing.as_ref().ok()?.as_slice().into();
-        let load = |feed: &Bytes, message| Load { desk: FRESH, feed: feed.clone(), message, table: vec![0; 20 * self.rows] };
+        let placing = |feed: &Bytes, message| Placing { desk: FRESH, feed: feed.clone(), message, table: vec![0; 20 * self.rows] };
         let sending = Sending { feed: out.clone(), message: 1, buffer: buffer(out.len()) };
-        Some(Again { first: load(&self.feed, self.message), then: load(&out, 1), sending })
+        Some(Again { first: placing(&self.feed, self.message), then: placing(&out, 1), sending })
     }
 }
 
 /// So many in a hundred messages are written, the first of a feed always.
 const WRITTEN: usize = 35;
 
-/// So many in a hundred messages that went out are loaded and written again.
+/// So many in a hundred messages that went out are placed and written again.
 const AGAIN: usize = 30;
 
-/// Writings of some of these messages of a feed, and what of them is loaded and written again.
+/// Writings of some of these messages of a feed, and what of them is placed and written again.
 /// If the feed is sound, the texts are what its messages must go out as.
 pub fn writings(feed: &Bytes, messages: &[u64], texts: Option<&[Vec<u8>]>, dice: &mut Dice) -> (Vec<Writing>, Vec<Again>) {
     let lines = Feed::new(feed);
@@ -152,7 +152,7 @@ mod tests {
             }
             again += agains.len();
         }
-        assert!(again > 50, "seed {seed}: {again} loaded again");
+        assert!(again > 50, "seed {seed}: {again} placed again");
     }
 
     #[test]

@@ -138,7 +138,7 @@ pub(super) fn desks(book: &mut DeskCases) {
         let heard = |ticket: &Ticket| rows.get(ticket.row as usize).map(|numbers| row(*numbers)).ok_or(NO_ROW);
         let want = tickets.iter().map(heard).collect();
         let reading = Reading { desk: desk(1, count), feed: feed.clone(), table: placed.table.clone(), tickets: tickets.to_vec() };
-        book.load(&format!("{name}, placed"), FRESH, (feed, 1), lent(size + 3), placed);
+        book.place(&format!("{name}, placed"), FRESH, (feed, 1), lent(size + 3), placed);
         book.reads.push(ReadCase { name: format!("{name}, read"), reading, want });
     }
 }

@@ -1,17 +1,17 @@
-//! Cases about loads and tickets: what a load leaves of desk and table, and what a ticket hears.
+//! Cases about placings and tickets: what a placing leaves of desk and table, and what a ticket hears.
 
 use super::day;
 use super::degree::{with, DEGREE, METHOD};
 use super::{joined_sheets, oem, opm, row, wide_oem, FULL_ROWS};
 use crate::bytes::Bytes;
-use crate::desk::{Desk, Heard, Load, Placed, Reading, Ticket, ASTRAY, FINE, FRESH, GONE, NO_ROOM, NO_ROW, SPENT};
+use crate::desk::{Desk, Heard, Placed, Placing, Reading, Ticket, ASTRAY, FINE, FRESH, GONE, NO_ROOM, NO_ROW, SPENT};
 use crate::judge::Reason::{self, *};
 
-/// One load, and what must come of it, down to every byte of the table.
+/// One placing, and what must come of it, down to every byte of the table.
 #[derive(Clone, Debug)]
-pub struct LoadCase {
+pub struct PlaceCase {
     pub name: String,
-    pub load: Load,
+    pub placing: Placing,
     pub want: Placed,
 }
 
@@ -26,11 +26,11 @@ pub struct ReadCase {
 /// The cases as they are gathered.
 #[derive(Debug, Default)]
 pub struct DeskCases {
-    pub loads: Vec<LoadCase>,
+    pub placings: Vec<PlaceCase>,
     pub reads: Vec<ReadCase>,
 }
 
-/// All fixed cases about loads and tickets.
+/// All fixed cases about placings and tickets.
 pub fn desks() -> DeskCases {
     let mut book = DeskCases::default();
     room(&mut book);
@@ -57,21 +57,21 @@ pub fn desks() -> DeskCases {
     book
 }
 
-const TOP: u32 = 4_294_967_295;
+pub(super) const TOP: u32 = 4_294_967_295;
 
 /// The desk after the feed in full was placed on a fresh one.
-const FULL: Desk = Desk { load: 1, count: 19 };
+pub(super) const FULL: Desk = Desk { load: 1, count: 19 };
 
 pub(super) fn desk(load: u32, count: u32) -> Desk {
     Desk { load, count }
 }
 
-fn full() -> Vec<u8> {
+pub(super) fn full() -> Vec<u8> {
     oem().into()
 }
 
 /// The feed in full or another one, filled with LF up to one byte more than the limit.
-fn too_long(head: Vec<u8>) -> Bytes {
+pub(super) fn too_long(head: Vec<u8>) -> Bytes {
     Bytes::padded(head, 16_777_216, b'\n')
 }
 
@@ -87,24 +87,25 @@ pub(super) fn over(rows: &[[u32; 5]], size: usize) -> Vec<u8> {
 }
 
 /// A table of this size after the feed in full was placed in it.
-fn filled(size: usize) -> Vec<u8> {
+pub(super) fn filled(size: usize) -> Vec<u8> {
     over(&FULL_ROWS, size)
 }
 
 impl DeskCases {
-    pub(super) fn load(&mut self, name: &str, before: Desk, (feed, message): (impl Into<Bytes>, u64), table: Vec<u8>, want: Placed) {
-        self.loads.push(LoadCase { name: name.to_string(), load: Load { desk: before, feed: feed.into(), message, table }, want });
+    pub(super) fn place(&mut self, name: &str, before: Desk, (feed, message): (impl Into<Bytes>, u64), table: Vec<u8>, want: Placed) {
+        let placing = Placing { desk: before, feed: feed.into(), message, table };
+        self.placings.push(PlaceCase { name: name.to_string(), placing, want });
     }
 
     /// The feed in full on a table of this size.
     fn stands(&mut self, name: &str, before: Desk, size: usize, after: Desk) {
         let want = Placed { desk: after, reason: FINE, line: 0, table: filled(size) };
-        self.load(name, before, (full(), 1), lent(size), want);
+        self.place(name, before, (full(), 1), lent(size), want);
     }
 
-    /// A load that leaves every byte of the table.
+    /// A placing that leaves every byte of the table.
     fn falls(&mut self, name: &str, before: Desk, asked: (impl Into<Bytes>, u64), size: usize, (after, reason, line): (Desk, u32, u32)) {
-        self.load(name, before, asked, lent(size), Placed { desk: after, reason, line, table: lent(size) });
+        self.place(name, before, asked, lent(size), Placed { desk: after, reason, line, table: lent(size) });
     }
 
     fn read(&mut self, name: &str, at: Desk, ticket: (u32, u32), (feed, table): (impl Into<Bytes>, Vec<u8>), want: Result<[u32; 5], u32>) {
@@ -131,7 +132,7 @@ fn room(book: &mut DeskCases) {
     book.stands("room on a desk with rows", FULL, 381, desk(2, 19));
     book.stands("room on a desk with more rows than any table", desk(6, TOP), 380, desk(7, 19));
     let again = Placed { desk: desk(2, 19), reason: FINE, line: 0, table: filled(391) };
-    book.load("the same feed over its own rows", FULL, (full(), 1), filled(391), again);
+    book.place("the same feed over its own rows", FULL, (full(), 1), filled(391), again);
     book.falls("no room for an OPM of 20 rows", FRESH, (opm(), 1), 399, (desk(1, 0), NO_ROOM, 0));
 }
 
@@ -153,7 +154,7 @@ fn high_bytes(book: &mut DeskCases) {
         let last = [&[45, 0, 0, 0, 1, 0, 0, 0][..], &line_and_start(high), &[1, 0, 0, 0]].concat();
         let table = [&filled(380)[..], &last, &lent(403)[400..]].concat();
         let want = Placed { desk: desk(1, 20), reason: FINE, line: 0, table: table.clone() };
-        book.load(&format!("low byte first in {name}"), FRESH, (feed.clone(), 1), lent(403), want);
+        book.place(&format!("low byte first in {name}"), FRESH, (feed.clone(), 1), lent(403), want);
         let value = [45, 1, line, start, 1];
         book.read(&format!("low byte first in {name}, read back"), desk(1, 20), (1, 19), (feed.clone(), table.clone()), Ok(value));
         let cut = feed.cut(feed.len() - 1);
@@ -177,7 +178,7 @@ fn great_lines(book: &mut DeskCases) {
         let value = [45, 1, line, start, 1];
         let rows: Vec<[u32; 5]> = FULL_ROWS.iter().copied().chain([value]).collect();
         let want = Placed { desk: desk(1, 20), reason: FINE, line: 0, table: over(&rows, 402) };
-        book.load(&format!("a row at line {line} and start {start}"), FRESH, (feed.clone(), 1), lent(402), want);
+        book.place(&format!("a row at line {line} and start {start}"), FRESH, (feed.clone(), 1), lent(402), want);
         book.falls(&format!("no room for a row at line {line}"), FRESH, (feed.clone(), 1), 399, (desk(1, 0), NO_ROOM, 0));
         let mut at = |name: &str, feed: Bytes, want| {
             book.read(&format!("{name} at line {line} and start {start}"), desk(1, 20), (1, 19), (feed, over(&rows, 400)), want);
@@ -206,7 +207,7 @@ fn many_rows(book: &mut DeskCases) {
     }
     for size in [1_400_240, 1_400_243] {
         let want = Placed { desk: desk(1, 70_012), reason: FINE, line: 0, table: over(&rows, size) };
-        book.load(&format!("70,012 rows in {size} bytes"), FRESH, (feed.clone(), 1), lent(size), want);
+        book.place(&format!("70,012 rows in {size} bytes"), FRESH, (feed.clone(), 1), lent(size), want);
     }
     let mut at = |row: u32, size: usize, want| {
         let name = format!("row {row} of 70,012, table of {size} bytes");
@@ -248,7 +249,7 @@ fn load_numbers(book: &mut DeskCases) {
         book.falls(&format!("spent with count {count}"), desk(TOP, count), (full(), 1), 800, (desk(TOP, count), SPENT, 0));
     }
     let spent = Placed { desk: desk(TOP, 19), reason: SPENT, line: 0, table: filled(382) };
-    book.load("spent over its own rows", desk(TOP, 19), (opm(), 1), filled(382), spent);
+    book.place("spent over its own rows", desk(TOP, 19), (opm(), 1), filled(382), spent);
 }
 
 /// Wrong messages, each with document 01's number and the line.
@@ -323,13 +324,13 @@ fn messages(book: &mut DeskCases) {
     let moved = |by: u32| FULL_ROWS.map(|[code, group, line, start, length]| [code, group, line, start + by, length]);
     let two = [full(), full()].concat();
     let placed = |rows: &[[u32; 5]]| Placed { desk: desk(1, 19), reason: FINE, line: 0, table: over(rows, 383) };
-    book.load("the first of two", FRESH, (two.clone(), 1), lent(383), placed(&FULL_ROWS));
-    book.load("the second of two", FRESH, (two.clone(), 2), lent(383), placed(&moved(244)));
+    book.place("the first of two", FRESH, (two.clone(), 1), lent(383), placed(&FULL_ROWS));
+    book.place("the second of two", FRESH, (two.clone(), 2), lent(383), placed(&moved(244)));
     book.falls("the third of two", FRESH, (two, 3), 383, (desk(1, 0), 2, 0));
-    book.load("a line before the heading", FRESH, ([b"x\n".to_vec(), full()].concat(), 1), lent(383), placed(&moved(2)));
+    book.place("a line before the heading", FRESH, ([b"x\n".to_vec(), full()].concat(), 1), lent(383), placed(&moved(2)));
     let pair: Vec<u8> = [oem().drop(13).into(), full()].concat();
     book.falls("a wrong message before a right one", FRESH, (pair.clone(), 1), 383, (desk(1, 0), 11, 13));
-    book.load("a right message after a wrong one", FRESH, (pair, 2), lent(383), placed(&moved(212)));
+    book.place("a right message after a wrong one", FRESH, (pair, 2), lent(383), placed(&moved(212)));
 }
 
 /// A wrong message keeps the table, however much room there is, and comes before NO_ROOM.
@@ -357,7 +358,7 @@ fn degrees(book: &mut DeskCases) {
     }
     for size in [420, 421, 422, 423, 840] {
         let want = Placed { desk: desk(2, 21), reason: FINE, line: 0, table: over(&rows, size) };
-        book.load(&format!("both lines in {size} bytes"), FULL, (both(), 1), lent(size), want);
+        book.place(&format!("both lines in {size} bytes"), FULL, (both(), 1), lent(size), want);
     }
     for (number, want) in (0..).zip(&rows) {
         let lent = (both(), over(&rows, 420));
@@ -376,7 +377,7 @@ fn degrees(book: &mut DeskCases) {
             book.falls(&format!("{name}, before both"), FULL, (pair.clone(), 1), size, (desk(2, 0), 7, line));
         }
         let want = Placed { desk: desk(2, 21), reason: FINE, line: 0, table: over(&moved, 421) };
-        book.load(&format!("both lines after {name} alone"), FULL, (pair.clone(), 2), lent(421), want);
+        book.place(&format!("both lines after {name} alone"), FULL, (pair.clone(), 2), lent(421), want);
         book.falls(&format!("no room for both lines after {name} alone"), FULL, (pair, 2), 419, (desk(2, 0), NO_ROOM, 0));
     }
 }
@@ -435,7 +436,7 @@ fn rows_past_the_count(book: &mut DeskCases) {
     }
 }
 
-/// After any refusal but SPENT the tickets before it are gone, and the refused load has no rows, though the table still holds them.
+/// After any refusal but SPENT the tickets before it are gone, and the load that it began has no rows, though the table still holds them.
 fn after_refusals(book: &mut DeskCases) {
     let table = || filled(381);
     let mut refusals: Vec<(String, Bytes, u64, u32, u32)> = vec![
@@ -446,15 +447,15 @@ fn after_refusals(book: &mut DeskCases) {
     refusals.extend(wrong().map(|(reason, line, feed)| (format!("{} at {line}", reason.name()), feed.into(), 1, reason.number(), line)));
     for (name, feed, message, reason, line) in refusals {
         let want = Placed { desk: desk(2, 0), reason, line, table: table() };
-        book.load(&format!("rows left in the table by {name}"), FULL, (feed, message), table(), want);
+        book.place(&format!("rows left in the table by {name}"), FULL, (feed, message), table(), want);
     }
-    book.read("the ticket before a refused load", desk(2, 0), (1, 0), (full(), table()), Err(GONE));
-    book.read("a ticket of the refused load", desk(2, 0), (2, 0), (full(), table()), Err(NO_ROW));
-    book.read("a ticket of the load after a refused one", desk(2, 0), (3, 0), (full(), table()), Err(GONE));
-    book.read("the ticket before a spent load", desk(TOP, 19), (TOP, 0), (full(), table()), Ok([36, 0, 1, 15, 3]));
+    book.read("the ticket before a refused placing", desk(2, 0), (1, 0), (full(), table()), Err(GONE));
+    book.read("a ticket of the load that a refused placing began", desk(2, 0), (2, 0), (full(), table()), Err(NO_ROW));
+    book.read("a ticket of the load after that", desk(2, 0), (3, 0), (full(), table()), Err(GONE));
+    book.read("the ticket before a spent placing", desk(TOP, 19), (TOP, 0), (full(), table()), Ok([36, 0, 1, 15, 3]));
 }
 
-/// Tables cut after the load, or lengthened: row n needs 20 bytes from 20n on.
+/// Tables cut after the placing, or lengthened: row n needs 20 bytes from 20n on.
 fn tables_cut(book: &mut DeskCases) {
     let mut at = |number: u32, size: usize, want| {
         let table = filled(800)[..size].to_vec();
@@ -494,7 +495,7 @@ fn rows_far_out(book: &mut DeskCases) {
     book.read("a row of old bytes", desk(1, 40), (1, 19), longer, Err(ASTRAY));
 }
 
-/// Feeds cut after the load, or lengthened: a row needs the feed up to its start and length.
+/// Feeds cut after the placing, or lengthened: a row needs the feed up to its start and length.
 fn feeds_cut(book: &mut DeskCases) {
     let mut at = |number: u32, size: usize, want| {
         let feed = Bytes::padded(full(), size, b' ').cut(size);
@@ -525,7 +526,7 @@ fn feeds_cut(book: &mut DeskCases) {
     }
 }
 
-/// Tables that no load has filled: a row is what the numbers say, and its span is looked for in the feed that is lent.
+/// Tables that no placing has filled: a row is what the numbers say, and its span is looked for in the feed that is lent.
 fn strange_tables(book: &mut DeskCases) {
     let mut at = |numbers: [u32; 5], size: usize, want: Result<(), u32>| {
         let lent = (Bytes::padded(Vec::new(), size, b'x'), over(&[numbers], 20));

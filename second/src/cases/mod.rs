@@ -8,6 +8,7 @@ mod feeds;
 mod lines;
 mod moving;
 mod orders;
+mod previewing;
 mod saying;
 mod sending;
 mod sixty;
@@ -15,9 +16,10 @@ mod values;
 
 use crate::bytes::Bytes;
 use crate::judge::{Reason, Row};
-pub use desks::{desks, DeskCases, LoadCase, ReadCase};
+pub use desks::{desks, DeskCases, PlaceCase, ReadCase};
 pub use explaining::{explainings, ExplainCase};
 pub use moving::{movings, MoveCase};
+pub use previewing::{previewings, SitCase};
 pub use saying::{sayings, SayCase};
 pub use sending::{sendings, SendCase};
 
@@ -41,7 +43,7 @@ pub struct Case {
     pub headings: Result<usize, Reason>,
     pub message: u64,
     pub want: Want,
-    /// Whether it is judged and no more; the others are written and loaded again as well, which the greatest feeds take too long for.
+    /// Whether it is judged and no more; the others are written and placed again as well, which the greatest feeds take too long for.
     pub only_judged: bool,
 }
 
@@ -293,6 +295,7 @@ mod tests {
     use crate::mend::Said;
     use crate::say::say;
     use crate::send::send;
+    use crate::sitting::sit;
     use crate::weigh::weigh;
     use crate::widths::shift;
 
@@ -306,9 +309,10 @@ mod tests {
     #[test]
     fn names_differ() {
         all_differ(all().into_iter().map(|case| case.name).collect(), 120);
-        let DeskCases { loads, reads } = desks();
-        all_differ(loads.into_iter().map(|case| case.name).collect(), 120);
+        let DeskCases { placings, reads } = desks();
+        all_differ(placings.into_iter().map(|case| case.name).collect(), 120);
         all_differ(reads.into_iter().map(|case| case.name).collect(), 120);
+        all_differ(previewings().into_iter().map(|case| case.name).collect(), 100);
         all_differ(sendings().into_iter().map(|case| case.name).collect(), 1_000);
         all_differ(sayings().into_iter().map(|case| case.name).collect(), 1_000);
         all_differ(movings().into_iter().map(|case| case.name).collect(), 400);
@@ -367,9 +371,18 @@ mod tests {
 
     #[test]
     fn the_desk_gives_the_answers_written_by_hand() {
-        let DeskCases { loads, reads } = desks();
-        loads.iter().for_each(|case| assert!(place(&case.load) == case.want, "{}", case.name));
+        let DeskCases { placings, reads } = desks();
+        placings.iter().for_each(|case| assert!(place(&case.placing) == case.want, "{}", case.name));
         reads.iter().for_each(|case| assert_eq!(read(&case.reading), case.want, "{}", case.name));
+    }
+
+    #[test]
+    fn sittings_give_the_answers_written_by_hand() {
+        for SitCase { name, sitting, want } in previewings() {
+            let sat = sit(&sitting);
+            assert_eq!(sat.replies.into_iter().map(Some).collect::<Vec<_>>(), want.replies, "{name}");
+            assert!(sat.table == want.table.unwrap_or(sitting.table), "{name}");
+        }
     }
 
     #[test]

@@ -1,4 +1,4 @@
-//! Has what went out for a message loaded and written again, by both programs, and holds the second load against the first.
+//! Has what went out for a message placed and written again, by both programs, and holds the second placing against the first.
 //! The message was written before, and the product's bytes were held against the second program's, so both are given the same bytes here;
 //! where the product's were others, that was told then.
 
@@ -13,7 +13,7 @@ use second::judge::headings;
 use second::send::{send, Sent};
 use second::writings::Again;
 
-/// What one program says, step by step: the first load, the reason and count of the output's headings, its load and its writing.
+/// What one program says, step by step: the first placing, the reason and count of the output's headings, its placing and its writing.
 struct Round {
     first: Placed,
     headings: (u32, u32),
@@ -32,7 +32,7 @@ pub fn compare_again(again: &Again, generated: bool, face: Option<&mut Face>, ta
     if let Some(face) = face {
         let told = told_round(again, face)?;
         facts.extend(check_round("the product", again, &told));
-        facts.extend(other_loads(&ours, &told));
+        facts.extend(other_placings(&ours, &told));
     }
     if !facts.is_empty() {
         facts.insert(0, format!("what went out for message {}, {} bytes", again.first.message, again.then.feed.len()));
@@ -61,8 +61,8 @@ fn check_round(who: &str, again: &Again, round: &Round) -> Vec<String> {
         facts.push(format!("{who}, counting the output's headings: reason {reason} and count {count}"));
     }
     if round.first.reason != FINE || round.then.reason != FINE {
-        facts.push(format!("{who}, the message loaded: {}", placed_words(&round.first)));
-        facts.push(format!("{who}, the output loaded: {}", placed_words(&round.then)));
+        facts.push(format!("{who}, the message placed: {}", placed_words(&round.first)));
+        facts.push(format!("{who}, the output placed: {}", placed_words(&round.then)));
     }
     facts.extend(other_spoken(who, &spoken(&again.first.feed, &round.first), &spoken(&again.then.feed, &round.then)));
     facts.extend(other_sent("the output itself", &itself(again), &format!("{who}, the output written again"), &round.sent));
@@ -78,7 +78,7 @@ fn itself(again: &Again) -> Sent {
 /// A row's code, group and value.
 type Spoken = (u32, u32, Vec<u8>);
 
-/// What the rows of a load say; one that can't be read says nothing, and of a count that no table holds one such row is enough.
+/// What the rows of a placing say; one that can't be read says nothing, and of a count that no table holds one such row is enough.
 fn spoken(feed: &Bytes, placed: &Placed) -> Vec<Option<Spoken>> {
     let held = placed.table.len() / 20;
     let tickets = (0..placed.desk.count).take(held + 1).map(|row| Ticket { load: placed.desk.load, row }).collect();
@@ -86,7 +86,7 @@ fn spoken(feed: &Bytes, placed: &Placed) -> Vec<Option<Spoken>> {
     rows.iter().map(|row| row.as_ref().ok().and_then(|row| Some((row.code, row.group, value(feed, row)?.to_vec())))).collect()
 }
 
-/// The first row that says something else after the second load than after the first.
+/// The first row that says something else after the second placing than after the first.
 fn other_spoken(who: &str, first: &[Option<Spoken>], then: &[Option<Spoken>]) -> Option<String> {
     let at = (0..first.len().max(then.len())).find(|at| first.get(*at) != then.get(*at))?;
     let words = |rows: &[Option<Spoken>]| match rows.get(at) {
@@ -97,13 +97,13 @@ fn other_spoken(who: &str, first: &[Option<Spoken>], then: &[Option<Spoken>]) ->
     Some(format!("{who}, row {at}: {} of the message, {} of the output", words(first), words(then)))
 }
 
-/// Facts about loads that come to something else; the other steps have one right answer.
-fn other_loads(ours: &Round, told: &Round) -> Vec<String> {
-    let loads = [("message", &ours.first, &told.first), ("output", &ours.then, &told.then)];
+/// Facts about placings that come to something else; the other steps have one right answer.
+fn other_placings(ours: &Round, told: &Round) -> Vec<String> {
+    let placings = [("message", &ours.first, &told.first), ("output", &ours.then, &told.then)];
     let differ = |(what, left, right): (&str, &Placed, &Placed)| {
-        other_placed(&format!("the second program, the {what} loaded"), left, &format!("the product, the {what} loaded"), right)
+        other_placed(&format!("the second program, the {what} placed"), left, &format!("the product, the {what} placed"), right)
     };
-    loads.into_iter().flat_map(differ).collect()
+    placings.into_iter().flat_map(differ).collect()
 }
 
 #[cfg(test)]
@@ -125,7 +125,7 @@ mod tests {
     fn a_right_round_has_nothing_to_tell() {
         let again = again();
         assert_eq!(check_round("one", &again, &round(&again)), Vec::<String>::new());
-        assert_eq!(other_loads(&round(&again), &round(&again)), Vec::<String>::new());
+        assert_eq!(other_placings(&round(&again), &round(&again)), Vec::<String>::new());
     }
 
     #[test]
@@ -161,6 +161,6 @@ mod tests {
         let (ours, mut told) = (round(&again), round(&again));
         told.then.table[8] += 1;
         assert!(check_round("one", &again, &told).is_empty());
-        assert!(!other_loads(&ours, &told).is_empty());
+        assert!(!other_placings(&ours, &told).is_empty());
     }
 }

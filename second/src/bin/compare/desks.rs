@@ -2,44 +2,43 @@
 
 use crate::tally::Tally;
 use crate::words::{known_by, other_bytes, reason_words};
-use second::desk::{place, read, Desk, Heard, Load, Placed, Reading, Ticket, FINE};
-use second::face::{Face, ToldLoad};
-use second::judge::Row;
+use second::desk::{as_told, place, read, Desk, Heard, Outcome, Placed, Placing, Reading, Ticket, FINE};
+use second::face::{Face, ToldPlacing};
 
-/// Facts about a load that differs.
-pub fn compare_load(
-    load: &Load,
+/// Facts about a placing that differs.
+pub fn compare_placing(
+    placing: &Placing,
     known: &Placed,
     generated: bool,
     face: Option<&mut Face>,
     tally: &mut Tally,
 ) -> Result<Vec<String>, String> {
-    let placed = place(load);
+    let placed = place(placing);
     tally.answers += 1;
     if generated {
-        tally.loads.add(placed.reason);
+        tally.placings.add(placed.reason);
     }
     let mut facts = other_placed(known_by(generated), known, "the second program", &placed);
     if let Some(face) = face {
-        let told = next_placed(face, load)?;
+        let told = next_placed(face, placing)?;
         facts.extend(other_placed("the second program", &placed, "the product", &told));
     }
     if !facts.is_empty() {
-        facts.insert(0, format!("message {} on a desk with {}", load.message, desk_words(load.desk)));
+        facts.insert(0, format!("message {} on a desk with {}", placing.message, desk_words(placing.desk)));
     }
     Ok(facts)
 }
 
-/// What the face says of a load.
-pub fn next_placed(face: &mut Face, load: &Load) -> Result<Placed, String> {
-    let ToldLoad { numbers: [load, count, reason, line], table } = face.next_placed(load)?;
+/// What the face says of a placing.
+pub fn next_placed(face: &mut Face, placing: &Placing) -> Result<Placed, String> {
+    let ToldPlacing { numbers: [load, count, reason, line], table } = face.next_placed(placing)?;
     Ok(Placed { desk: Desk { load, count }, reason, line, table })
 }
 
-/// Facts about two answers to one load.
+/// Facts about two answers to one placing.
 pub fn other_placed(one: &str, left: &Placed, other: &str, right: &Placed) -> Vec<String> {
     let mut facts = Vec::new();
-    if (left.desk, left.reason, left.line) != (right.desk, right.reason, right.line) {
+    if left.outcome() != right.outcome() {
         facts.push(format!("{one}: {}", placed_words(left)));
         facts.push(format!("{other}: {}", placed_words(right)));
     }
@@ -98,25 +97,21 @@ fn other_told(reading: &Reading, heard: &[Heard], told: &[[u32; 6]]) -> Vec<Stri
     facts
 }
 
-/// The numbers of the C struct; on a refusal all but the reason are 0.
-fn as_told(heard: &Heard) -> [u32; 6] {
-    match heard {
-        Ok(Row { code, group, line, start, length }) => [FINE, *code, *group, *line, *start, *length],
-        Err(reason) => [*reason, 0, 0, 0, 0, 0],
-    }
-}
-
-fn desk_words(desk: Desk) -> String {
+pub fn desk_words(desk: Desk) -> String {
     format!("load {} and count {}", desk.load, desk.count)
 }
 
-fn ticket_words(ticket: Ticket) -> String {
+pub fn ticket_words(ticket: Ticket) -> String {
     format!("ticket of load {} and row {}", ticket.load, ticket.row)
 }
 
 pub fn placed_words(placed: &Placed) -> String {
-    let after = desk_words(placed.desk);
-    match (placed.reason, placed.line) {
+    outcome_words(placed.outcome())
+}
+
+pub fn outcome_words(Outcome { desk, reason, line }: Outcome) -> String {
+    let after = desk_words(desk);
+    match (reason, line) {
         (FINE, 0) => format!("accepted, then {after}"),
         (FINE, line) => format!("accepted, but with line {line}, then {after}"),
         (reason, line) => format!("refused {} at line {line}, then {after}", reason_words(reason)),
@@ -128,7 +123,7 @@ fn heard_words(heard: &Heard) -> String {
 }
 
 /// What a ticket heard, in words; numbers that a refusal must not have are told as they stand.
-fn told_words(told: &[u32; 6]) -> String {
+pub fn told_words(told: &[u32; 6]) -> String {
     let [reason, code, group, line, start, length] = told;
     let row = format!("code {code}, group {group}, line {line}, start {start}, length {length}");
     match told {

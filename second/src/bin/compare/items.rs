@@ -1,10 +1,11 @@
 //! What is asked: fixed cases, generated feeds, explanations, sessions, writings, texts and tables, each with what is known of the answer beforehand.
 
 use crate::explaining::Explaining;
+use crate::previewing::BESIDE;
 use second::aims::{aimed, Aimed};
 use second::bytes::Bytes;
-use second::cases::{Case, DeskCases, ExplainCase, MoveCase, SayCase, SendCase, Want};
-use second::desk::{Heard, Load, Placed, Reading};
+use second::cases::{Case, DeskCases, ExplainCase, MoveCase, SayCase, SendCase, SitCase, Want};
+use second::desk::{Heard, Placed, Placing, Reading};
 use second::dice::Dice;
 use second::face::{Face, Requests};
 use second::harm::{fill, harm_bytes, harm_draft};
@@ -14,16 +15,19 @@ use second::movings::{any_tables, Round, Tables, Told};
 use second::sayings::{any_spoken, Spoken};
 use second::send::Sent;
 use second::session::{session, Step};
+use second::sitting::{Foretold, Sitting};
+use second::sittings::Lent;
 use second::writings::{writings, Again, Letter, Writing};
 use std::rc::Rc;
 
 /// So many in a hundred generated feeds begin a session on a desk.
 const SESSIONS: usize = 50;
 
-/// The turns of texts begin after those of any feeds, then those of tables and of explanations, so that all have dice of their own.
+/// The turns of texts begin after those of any feeds, then those of tables, explanations and previews, so that all have dice of their own.
 const TEXT_TURNS: u64 = 1 << 40;
 const TABLE_TURNS: u64 = 1 << 41;
 const EXPLAIN_TURNS: u64 = 1 << 42;
+const PREVIEW_TURNS: u64 = 1 << 43;
 
 /// So many in a hundred messages are explained, the first of a feed always.
 const EXPLAINED: usize = 33;
@@ -74,8 +78,9 @@ pub struct Item {
 pub enum Ask {
     Judge(Judging),
     Explain(Explaining),
-    Load(Load, Placed),
+    Place(Placing, Placed),
     Read(Reading, Vec<Option<Heard>>),
+    Sit(Sitting, Foretold),
     Write(Writing),
     Again(Again),
     Say(Spoken),
@@ -108,8 +113,12 @@ impl Item {
         match &self.ask {
             Ask::Judge(judging) => vec![("feed", &judging.feed)],
             Ask::Explain(explaining) => vec![("feed", &explaining.feed)],
-            Ask::Load(load, _) => vec![("feed", &load.feed), ("table", &load.table)],
+            Ask::Place(placing, _) => vec![("feed", &placing.feed), ("table", &placing.table)],
             Ask::Read(reading, _) => vec![("feed", &reading.feed), ("table", &reading.table)],
+            Ask::Sit(sitting, _) => {
+                let beside = BESIDE.into_iter().zip(sitting.beside().into_iter().map(|feed| &feed[..]));
+                [("feed", &sitting.feed[..]), ("table", &sitting.table)].into_iter().chain(beside).collect()
+            }
             Ask::Write(writing) => vec![("feed", &writing.sending.feed), ("buffer", &writing.sending.buffer)],
             Ask::Again(again) => vec![("feed", &again.first.feed), ("output", &again.then.feed)],
             Ask::Say(spoken) => vec![("text", &spoken.saying.text)],
@@ -124,8 +133,9 @@ impl Item {
         match &self.ask {
             Ask::Judge(judging) => requests.add_judge(&judging.feed, &judging.messages),
             Ask::Explain(explaining) => requests.add_explain(&explaining.feed, &explaining.messages),
-            Ask::Load(load, _) => requests.add_place(load),
+            Ask::Place(placing, _) => requests.add_place(placing),
             Ask::Read(reading, _) => requests.add_read(reading),
+            Ask::Sit(sitting, _) => requests.add_sit(sitting),
             Ask::Write(writing) => requests.add_write(&writing.sending),
             Ask::Again(again) => {
                 requests.add_place(&again.first);
@@ -148,8 +158,9 @@ impl Item {
         match &self.ask {
             Ask::Judge(judging) => face.next_judged(judging.messages.len()).is_ok(),
             Ask::Explain(explaining) => face.next_explained(explaining.messages.len()).is_ok(),
-            Ask::Load(load, _) => face.next_placed(load).is_ok(),
+            Ask::Place(placing, _) => face.next_placed(placing).is_ok(),
             Ask::Read(reading, _) => face.next_read(reading).is_ok(),
+            Ask::Sit(sitting, _) => face.next_sat(sitting).is_ok(),
             Ask::Write(writing) => face.next_sent(&writing.sending).is_ok(),
             Ask::Again(again) => {
                 face.next_placed(&again.first).is_ok()
@@ -172,7 +183,7 @@ fn fixed(name: &str, ask: Ask) -> Item {
     Item { name: format!("fixed case: {name}"), generated: false, ask }
 }
 
-/// A case's message to be judged, explained and written and, if it goes out, loaded and written again.
+/// A case's message to be judged, explained and written and, if it goes out, placed and written again.
 pub fn case_items(case: Case) -> Vec<Item> {
     let Case { name, feed, headings, message, want, only_judged } = case;
     let judging = Judging { feed: feed.clone(), messages: vec![message], known: Known::Case { headings, want: want.clone() } };
@@ -188,7 +199,7 @@ pub fn case_items(case: Case) -> Vec<Item> {
         Want::Refused(reason, line) => Some(Sent { reason: reason.number(), line: line as u32, length: 0, buffer: buffer.clone() }),
         Want::Accepted { .. } => None,
     };
-    let again = letter.again(|size| vec![255; size]).map(|again| fixed(&format!("{name}, loaded again"), Ask::Again(again)));
+    let again = letter.again(|size| vec![255; size]).map(|again| fixed(&format!("{name}, placed again"), Ask::Again(again)));
     let written = fixed(&format!("{name}, written"), Ask::Write(letter.into_buffer(buffer, refused)));
     [judged, explained, written].into_iter().chain(again).collect()
 }
@@ -215,9 +226,13 @@ pub fn move_item(case: MoveCase) -> Item {
 }
 
 pub fn desk_items(cases: DeskCases) -> Vec<Item> {
-    let loads = cases.loads.into_iter().map(|case| fixed(&case.name, Ask::Load(case.load, case.want)));
+    let placings = cases.placings.into_iter().map(|case| fixed(&case.name, Ask::Place(case.placing, case.want)));
     let reads = cases.reads.into_iter().map(|case| fixed(&case.name, Ask::Read(case.reading, case.want.into_iter().map(Some).collect())));
-    loads.chain(reads).collect()
+    placings.chain(reads).collect()
+}
+
+pub fn sit_item(case: SitCase) -> Item {
+    fixed(&case.name, Ask::Sit(case.sitting, case.want))
 }
 
 /// What one turn of a seed brings: a feed, explanations of its messages, often a session that begins with it, writings of its messages, and a feed
@@ -235,6 +250,7 @@ pub fn generated_items(seed: u64, turn: usize) -> Vec<Item> {
     let item = |more: String, ask| Item { name: format!("{name}{more}"), generated: true, ask };
     let mut luck = Dice::new(seed, EXPLAIN_TURNS + turn as u64);
     let explaining = some_explained(&feed, &messages, &known, &mut luck);
+    let first = lent(&feed, &known);
     let judging = Ask::Judge(Judging { feed: feed.clone(), messages: messages.clone(), known });
     let mut items = vec![item(String::new(), judging)];
     if is_greatest {
@@ -242,20 +258,28 @@ pub fn generated_items(seed: u64, turn: usize) -> Vec<Item> {
     }
     items.push(item(", explained".to_string(), Ask::Explain(explaining)));
     if dice.percent(SESSIONS) {
-        let mut feeds = vec![feed.clone()];
-        feeds.extend((0..dice.below(3)).map(|_| any_feed(&mut dice).feed));
-        let asks = session(&feeds, &mut dice).into_iter().map(|step| match step {
-            Step::Load(load, placed) => Ask::Load(load, placed),
+        let others = (0..dice.below(3)).map(|_| any_feed(&mut dice)).map(|Made { feed, known, .. }| lent(&feed, &known));
+        let feeds: Vec<Lent> = [first].into_iter().chain(others).collect();
+        let mut glances = Dice::new(seed, PREVIEW_TURNS + turn as u64);
+        let asks = session(&feeds, &mut dice, &mut glances).into_iter().map(|step| match step {
+            Step::Place(placing, placed) => Ask::Place(placing, placed),
             Step::Read(reading, known) => Ask::Read(reading, known),
+            Step::Sit(sitting, known) => Ask::Sit(sitting, known),
         });
         items.extend((1..).zip(asks).map(|(at, ask)| item(format!(", call {at} on a desk"), ask)));
     }
     let (writings, agains) = writings(&feed, &messages, texts.as_deref(), &mut dice);
     items.extend((1..).zip(writings).map(|(at, writing)| item(format!(", writing {at}"), Ask::Write(writing))));
-    items.extend((1..).zip(agains).map(|(at, again)| item(format!(", output {at} loaded again"), Ask::Again(again))));
+    items.extend((1..).zip(agains).map(|(at, again)| item(format!(", output {at} placed again"), Ask::Again(again))));
     let reason = AIMS[turn % AIMS.len()];
     items.push(item(format!(", another with {}, explained", reason.name()), Ask::Explain(aimed_at(reason, &mut luck))));
     items
+}
+
+/// A feed for a session; of a sound one it is known how many rows its messages have.
+fn lent(feed: &Bytes, known: &Known) -> Lent {
+    let rows = if let Known::Rows(rows) = known { Some(rows.iter().map(Vec::len).collect()) } else { None };
+    Lent { feed: feed.clone(), rows }
 }
 
 /// The first of these messages of a feed and some of the others; of a sound feed it is known what must be said.

@@ -6,8 +6,9 @@ use crate::sixty;
 use crate::tally::Tally;
 use second::cases::Want;
 use second::desk::FINE;
-use second::face::{Face, Judged, Told};
+use second::face::{Face, Told};
 use second::judge::{judge, Answer, Feed, Place, Reason, Row};
+use second::preview::Judged;
 
 /// Facts about answers that differ.
 pub fn compare_judged(asked: &Judging, generated: bool, face: Option<&mut Face>, tally: &mut Tally) -> Result<Vec<String>, String> {
@@ -17,7 +18,7 @@ pub fn compare_judged(asked: &Judging, generated: bool, face: Option<&mut Face>,
     tally.feeds += 1;
     tally.answers += 1 + answers.len();
     if generated {
-        answers.iter().for_each(|answer| tally.judged.add(as_judged(answer).reason));
+        answers.iter().for_each(|answer| tally.judged.add(Judged::of(answer).reason));
         tally.sixties.add_feed(&asked.feed, &feed, &asked.messages, &answers, sixty::things);
         tally.degrees.add_feed(&asked.feed, &feed, &asked.messages, &answers, degrees::things);
     }
@@ -124,20 +125,13 @@ fn check_told(asked: &Judging, headings: Result<usize, Reason>, answers: &[Answe
         facts.push(format!("the product, counting headings: reason {} and count {}", told.reason, told.count));
     }
     for ((message, answer), judged) in asked.messages.iter().zip(answers).zip(&told.judged) {
-        if *judged != as_judged(answer) {
+        if *judged != Judged::of(answer) {
             facts.push(format!("message asked for: {message}"));
             facts.push(format!("the second program: {}", answer_words(answer)));
             facts.push(format!("the product: {}", judged_words(judged)));
         }
     }
     facts
-}
-
-fn as_judged(answer: &Answer) -> Judged {
-    match answer {
-        Answer::Accepted(rows) => Judged { reason: FINE, line: 0, rows: rows.len() as u32 },
-        Answer::Refused { reason, line } => Judged { reason: reason.number(), line: *line as u32, rows: 0 },
-    }
 }
 
 fn headings_words(headings: Result<usize, Reason>) -> String {
@@ -164,7 +158,7 @@ fn answer_words(answer: &Answer) -> String {
 }
 
 /// The face's numbers in words; a mixture that no answer has is told as it stands.
-fn judged_words(judged: &Judged) -> String {
+pub fn judged_words(judged: &Judged) -> String {
     match (judged.reason, Reason::of_number(judged.reason)) {
         (FINE, _) if judged.line == 0 => accepted_words(judged.rows as usize),
         (_, Some(reason)) if judged.rows == 0 => refused_words(reason.name(), judged.line as usize),

@@ -10,6 +10,8 @@ mod items;
 mod judging;
 mod moving;
 mod outputs;
+mod previewing;
+mod previews;
 mod roundings;
 mod saying;
 mod sending;
@@ -20,7 +22,8 @@ mod widths;
 mod words;
 
 use items::{
-    case_items, desk_items, explain_item, generated_items, generated_tables, generated_text, move_item, say_item, send_item, Ask, Item,
+    case_items, desk_items, explain_item, generated_items, generated_tables, generated_text, move_item, say_item, send_item, sit_item, Ask,
+    Item,
 };
 use second::cases;
 use second::face::{Face, Requests};
@@ -30,8 +33,8 @@ use tally::{Tally, FLOOR_FEEDS, FLOOR_TABLES, FLOOR_TEXTS};
 
 const HELP: &str = "\
 compare --self [--seed N] [--feeds N] [--texts N] [--tables N]
-    runs the second program alone: fixed cases against their answers, sound feeds, calls on a desk, writings, explanations, texts and tables
-    against what is foretold
+    runs the second program alone: fixed cases against their answers, sound feeds, calls on a desk, previews, writings, explanations, texts and
+    tables against what is foretold
 compare [--seed N] [--feeds N] [--texts N] [--tables N] --face COMMAND...
     runs it beside the product's C face; everything after --face is the command that starts the face";
 
@@ -104,7 +107,8 @@ fn run(options: &Options) -> Result<bool, String> {
     let explainings = cases::explainings();
     let mut progress = Progress { last: Instant::now(), feeds: fixed.len() + options.feeds, texts: sayings.len() + options.texts };
     println!("seed {}", options.seed);
-    let of_desks = format!("{} of loads, {} of tickets", desks.loads.len(), desks.reads.len());
+    let previewings = cases::previewings();
+    let of_desks = format!("{} of placings, {} of tickets, {} of previews", desks.placings.len(), desks.reads.len(), previewings.len());
     let of_others = format!("{} of writings, {} of sayings, {} of widenings and narrowings", sendings.len(), sayings.len(), movings.len());
     println!("{} fixed cases of judging, {} of explanations, {of_desks}, {of_others}", fixed.len(), explainings.len());
     println!("{} generated feeds", options.feeds);
@@ -113,7 +117,8 @@ fn run(options: &Options) -> Result<bool, String> {
     let mut face = options.face.as_ref().map(|command| Face::start(command)).transpose()?;
     let mut tally = Tally::new();
     let judged = fixed.into_iter().flat_map(case_items);
-    let others = desk_items(desks).into_iter().chain(sendings.into_iter().map(send_item)).chain(sayings.into_iter().map(say_item));
+    let on_desks = desk_items(desks).into_iter().chain(previewings.into_iter().map(sit_item));
+    let others = on_desks.chain(sendings.into_iter().map(send_item)).chain(sayings.into_iter().map(say_item));
     let others = others.chain(movings.into_iter().map(move_item)).chain(explainings.into_iter().map(explain_item));
     let feeds = (0..options.feeds).flat_map(|turn| generated_items(options.seed, turn));
     let texts = (0..options.texts).map(|turn| generated_text(options.seed, turn));
@@ -209,8 +214,9 @@ fn compare(item: &Item, face: Option<&mut Face>, tally: &mut Tally) -> Result<()
     let facts = match &item.ask {
         Ask::Judge(judging) => judging::compare_judged(judging, item.generated, face, tally),
         Ask::Explain(explaining) => explaining::compare_explained(explaining, item.generated, face, tally),
-        Ask::Load(load, known) => desks::compare_load(load, known, item.generated, face, tally),
+        Ask::Place(placing, known) => desks::compare_placing(placing, known, item.generated, face, tally),
         Ask::Read(reading, known) => desks::compare_read(reading, known, item.generated, face, tally),
+        Ask::Sit(sitting, known) => previewing::compare_sitting(sitting, known, item.generated, face, tally),
         Ask::Write(writing) => sending::compare_sent(writing, item.generated, face, tally),
         Ask::Again(again) => again::compare_again(again, item.generated, face, tally),
         Ask::Say(spoken) => saying::compare_said(spoken, item.generated, face, tally),

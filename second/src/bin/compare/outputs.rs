@@ -12,7 +12,7 @@ const NAMES: [&str; 17] = [
     "OPM written", "OEM written", "written into just the room needed", "written into more room", "NO_ROOM by one byte",
     "NO_ROOM with half the room or less", "NO_ROOM with an empty buffer", "written without a unit", "written without a blank line",
     "written without blanks of an assignment", "written without blanks of a META line", "written without blanks of a data line",
-    "written without blanks of a comment", "written without a CR", "written with an empty comment", "loaded again", "written again",
+    "written without blanks of a comment", "written without a CR", "written with an empty comment", "placed again", "written again",
 ];
 
 const OPM: usize = 0;
@@ -30,7 +30,7 @@ const DATA_LINE: usize = 11;
 const COMMENT: usize = 12;
 const CR: usize = 13;
 const EMPTY_COMMENT: usize = 14;
-const LOADED_AGAIN: usize = 15;
+const PLACED_AGAIN: usize = 15;
 const WRITTEN_AGAIN: usize = 16;
 
 /// How many writings were counted as each.
@@ -40,8 +40,8 @@ pub fn outputs() -> Outputs {
     Shown::new("generated outputs", "writings", NAMES)
 }
 
-/// An output that was loaded and written again.
-pub const AGAIN: [usize; 2] = [LOADED_AGAIN, WRITTEN_AGAIN];
+/// An output that was placed and written again.
+pub const AGAIN: [usize; 2] = [PLACED_AGAIN, WRITTEN_AGAIN];
 
 /// What a writing shows by what came of it.
 pub fn things(writing: &Writing, sent: &Sent) -> Vec<usize> {

@@ -4,6 +4,7 @@ use crate::blames::{blames, listed, Blames, Listed};
 use crate::degrees::{degrees, Degrees};
 use crate::items::Item;
 use crate::outputs::{outputs, Outputs};
+use crate::previews::{previews, Previews};
 use crate::roundings::{roundings, Roundings};
 use crate::sixty::{sixties, Sixties};
 use crate::widths::{widths, Widths};
@@ -12,8 +13,8 @@ use second::desk::{reason_name, NO_ROOM, PLACES, TOO_BIG, WIDE};
 use second::judge::Reason;
 use std::path::{Path, PathBuf};
 
-/// Each 20,000 generated feeds must bring every reason, every case of second 60 and of degrees, and everything that writings and explanations can
-/// show, this often.
+/// Each 20,000 generated feeds must bring every reason, every case of second 60 and of degrees, and everything that previews, writings and
+/// explanations can show, this often.
 const FLOOR: usize = 100;
 pub const FLOOR_FEEDS: usize = 20_000;
 
@@ -65,8 +66,8 @@ impl Counts {
     }
 }
 
-/// What has been counted so far; the reasons, the second 60, the degrees, the outputs, the blames, the listed codes, the roundings and the widths are
-/// those of generated feeds, texts and tables alone.
+/// What has been counted so far; the reasons, the second 60, the degrees, the previews, the outputs, the blames, the listed codes, the roundings and
+/// the widths are those of generated feeds, texts and tables alone.
 pub struct Tally {
     pub feeds: usize,
     pub texts: usize,
@@ -75,7 +76,7 @@ pub struct Tally {
     pub differences: usize,
     pub judged: Counts,
     pub explained: Counts,
-    pub loads: Counts,
+    pub placings: Counts,
     pub tickets: Counts,
     pub writings: Counts,
     pub sayings: Counts,
@@ -83,6 +84,7 @@ pub struct Tally {
     pub narrowings: Counts,
     pub sixties: Sixties,
     pub degrees: Degrees,
+    pub previews: Previews,
     pub outputs: Outputs,
     pub blames: Blames,
     pub listed: Listed,
@@ -101,7 +103,7 @@ impl Tally {
             differences: 0,
             judged: Counts::new("generated judgements", "accepted", 1..=11),
             explained: Counts::new("generated explanations", "accepted", 1..=11),
-            loads: Counts::new("generated loads", "accepted", 1..=13),
+            placings: Counts::new("generated placings", "accepted", 1..=13),
             tickets: Counts::new("generated tickets", "answered", 14..=16),
             writings: Counts::new("generated writings", "written", 1..=12),
             sayings: Counts::new("generated sayings", "said", [Reason::Value.number(), TOO_BIG, PLACES]),
@@ -109,6 +111,7 @@ impl Tally {
             narrowings: Counts::new("generated narrowings", "narrowed", [NO_ROOM, WIDE]),
             sixties: sixties(),
             degrees: degrees(),
+            previews: previews(),
             outputs: outputs(),
             blames: blames(),
             listed: listed(),
@@ -121,9 +124,10 @@ impl Tally {
     /// Says what was counted; true if there was no difference and everything came often enough among so many generated feeds, texts and tables.
     pub fn report(&self, feeds: usize, texts: usize, tables: usize) -> bool {
         let floor = floor_of(feeds, FLOOR_FEEDS);
-        let kinds = [&self.judged, &self.loads, &self.tickets, &self.writings];
+        let kinds = [&self.judged, &self.placings, &self.tickets, &self.writings];
         let of_kinds = kinds.iter().flat_map(|counts| counts.rare(floor));
         let of_feeds = self.sixties.rare(floor).into_iter().chain(self.degrees.rare(floor)).chain(self.outputs.rare(floor));
+        let of_feeds = of_feeds.chain(self.previews.rare(floor));
         let of_blames = self.explained.rare_explained(floor).into_iter().chain(self.blames.rare(floor)).chain(self.listed.rare(floor));
         let floor = floor_of(texts, FLOOR_TEXTS);
         let of_texts = self.sayings.rare(floor).into_iter().chain(self.roundings.rare(floor));
@@ -142,6 +146,7 @@ impl Tally {
         movings.iter().for_each(|counts| println!("{}", counts.words()));
         println!("{}", self.sixties.words());
         println!("{}", self.degrees.words());
+        println!("{}", self.previews.words());
         println!("{}", self.outputs.words());
         println!("{}", self.blames.words());
         println!("{}", self.listed.words());
@@ -197,12 +202,13 @@ mod tests {
     /// A tally in which everything came just often enough.
     fn whole() -> Tally {
         let mut tally = Tally::new();
-        let of_feeds = [&mut tally.judged, &mut tally.loads, &mut tally.tickets, &mut tally.writings];
+        let of_feeds = [&mut tally.judged, &mut tally.placings, &mut tally.tickets, &mut tally.writings];
         for counts in of_feeds.into_iter().chain([&mut tally.sayings, &mut tally.widenings, &mut tally.narrowings]) {
             counts.reasons.clone().into_iter().for_each(|reason| (0..FLOOR).for_each(|_| counts.add(reason)));
         }
         tally.sixties.counts = [FLOOR; 6];
         tally.degrees.counts = [FLOOR; 4];
+        tally.previews.counts = [FLOOR; 20];
         tally.outputs.counts = [FLOOR; 17];
         (0..=11).for_each(|reason| tally.explained.counts[reason] = if reason < 3 { FLOOR } else { 10 * FLOOR });
         tally.blames.counts.fill(FLOOR);
@@ -252,6 +258,11 @@ mod tests {
     #[test]
     fn a_run_that_lacks_a_case_of_degrees_fails() {
         (0..4).for_each(|at| fails(|tally| tally.degrees.counts[at] -= 1));
+    }
+
+    #[test]
+    fn a_run_that_lacks_something_that_previews_show_fails() {
+        (0..20).for_each(|at| fails(|tally| tally.previews.counts[at] -= 1));
     }
 
     #[test]
