@@ -1,11 +1,18 @@
 -- `desk::Desk::place` meets its contract: the load number, then the message put into the table, whose answer settles the desk.
 -- Assumes nothing.
-use mathlib.Core.Path.{sym, _∙_}
-use Rattle.rows.specs.Filled.{tableAfter}
+use mathlib.Core.Path.{_≡_, sym, _∙_}
+use lib.ListN.{length}
+use Rattle.judge.specs.Message.{judgeOf}
+use Rattle.rows.specs.Filled.{roomFor, tableAfter}
 use Rattle.desk.proofs.Reading.{place-spent, place-answer}
 use borrow.Author.Needs.{needs}
 use Rattle.desk.proofs.Desk.place.Statement.{statement}
 use Rattle.desk.proofs.Desk.place.Tie as tie
+
+-- the answer is that of the message asked for
+answered : (c : tie.After-put-message) → let s = c .before .before .before .before .before .before in
+    c .put-message .result ≡ roomFor (length (s .args .table .now)) (judgeOf (s .args .feed .now) (s .args .message))
+answered c = c .put-message .ensures .0
 
 returns : tie.Need-returns
 unfolding tableAfter
@@ -25,7 +32,7 @@ same-length c = search needs
 returns-2 : tie.Need-returns-2
 returns-2 c =
     let p = c .before .before .before in
-    let e = place-answer _ _ _ _ (p .before .before .if1 .left) _ (p .put-message .ensures .0) in
+    let e = place-answer _ _ _ _ (p .before .before .if1 .left) _ (answered p) in
     (rw (c .after .ensures) (sym e), p .put-message .ensures .1 ∙ rw e)
 
 pub place-spec : {M : Type 1} → statement M
