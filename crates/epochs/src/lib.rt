@@ -36,17 +36,18 @@ fn fits_shape(p: u8, b: u8) -> bool
 fn has_shape(text: &[u8], shape: &[u8]) -> bool
     ensures { λ r. ⌜ r ≡ shaped (now (shape .entry)) (now (text .entry)) ⌝ }
 {
+    if text.len() < shape.len() {
+        return false;
+    }
+    let mut fits = true;
     let mut i = 0;
     while i < shape.len() {
-        if text.len() <= i {
-            return false;
-        }
         if !fits_shape(shape[i], text[i]) {
-            return false;
+            fits = false; // and on to the end, so that no byte waits for the one before it
         }
         i += 1;
     }
-    true
+    fits
 }
 
 // The digit at a place, 0 past the end.

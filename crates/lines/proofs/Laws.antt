@@ -2,20 +2,21 @@
 -- Assumes nothing.
 use mathlib.Core.Path.{_≡_, refl, sym, ap, ap₂, _∙_}
 use mathlib.Core.List.{List, [], _∷_, _++_}
-use mathlib.Core.Bool.{Bool, true, false, _&&_, _||_}
+use mathlib.Core.Bool.{Bool, true, false, not, _&&_, _||_, true≢false}
 use Prim.Native.Nat.{ℕ, zero, suc, _+_, _-_, _≤_, _<_}
 use native.Mathlib.Nat.{not-suc-le-zero}
 use native.Mathlib.Numerals.{add-one}
 use native.Mathlib.Omega.{arith}
 use lib.Dec.{eqb, ltb}
-use lib.ListN.{length, getD, take, drop, length-take, length-drop, drop-of-length-le}
+use lib.ListN.{length, getD, set, take, drop, length-take, length-drop, drop-of-length-le}
 use lib.Seq.{drop-cons, drop-drop, take-suc}
-use borrow.Author.Tests.{eq-eqb, ne-eqb}
-use Rattle.words.specs.Words.{bytes, begins}
+use borrow.Author.Tests.{eq-eqb, ne-eqb, lt-ltb, le-ltb}
+use Rattle.words.specs.Words.{bytes, agrees, begins, run, firstAt}
 use Rattle.words.proofs.Laws.{run-le, part-from}
 use Rattle.lines.specs.Feed.{isEnd, joins, textLen, endWith, endLen, lineLen, endsOf}
-use Rattle.lines.specs.Text.{isBlank, blanks, cutEnd, trimOf, moved, heads, commentOf, wordEnds, fieldsFrom, fieldThen, gathered}
+use Rattle.lines.specs.Text.{isBlank, blanks, cutEnd, trimOf, moved, headingOf, heads, commentOf, wordEnds, fieldsFrom, fieldThen, fieldMore, gathered}
 use Rattle.lines.specs.declared.Ends.{Ends}
+use Rattle.lines.specs.declared.Heading.the-variants.{Nothing}
 use Rattle.lines.specs.declared.Comment.the-variants.{Value, Other}
 use Rattle.lines.specs.declared.Span.{Span}
 use Rattle.lines.specs.declared.Fields.{Fields}
@@ -76,31 +77,51 @@ cut-start s (suc i) h = absurd (not-suc-le-zero h)
 
 -- ---- fields, seen from a place
 
-module _ (s : List ℕ) (from i : ℕ) where
-  pub fields-end : length s ≤ i → fieldsFrom from i (drop i s) ≡ fieldThen from i []
-  unfolding fieldsFrom
-  fields-end h = rw (drop-of-length-le s h)
+none-in-hand : (at : ℕ) → fieldThen at at [] ≡ []
+unfolding fieldThen
+none-in-hand at = rw (le-ltb at at (omega arith), fieldThen)
 
-  pub fields-blank : i < length s → getD s i 0 ≡ 32
-      → fieldsFrom from i (drop i s) ≡ fieldThen from i (fieldsFrom (i + 1) (i + 1) (drop (i + 1) s))
-  unfolding fieldsFrom
-  fields-blank h e = rw (drop-cons s i 0 h) (rw (eq-eqb _ _ e, fieldsFrom) (rw (add-one i)))
-
-  pub fields-more : i < length s → (getD s i 0 ≡ 32 → ⊥) → fieldsFrom from i (drop i s) ≡ fieldsFrom from (i + 1) (drop (i + 1) s)
-  unfolding fieldsFrom
-  fields-more h e = rw (drop-cons s i 0 h) (rw (ne-eqb _ _ e, fieldsFrom) (rw (add-one i)))
-
--- the field in hand is gathered first
-pub gather-then : (f : Fields) (from to : ℕ) (ps : List Span)
-    → gathered f (fieldThen from to ps) ≡ gathered (gathered f (fieldThen from to [])) ps
-unfolding fieldThen gathered
-gather-then f from to ps = go (ltb from to)
+-- the field in hand runs to the next blank, and the others start behind it
+fields-on : (s : List ℕ) (from at n : ℕ) → n ≡ at + firstAt 32 s
+    → fieldsFrom from at s ≡ fieldThen from n (fieldsFrom (n + 1) (n + 1) (drop (firstAt 32 s + 1) s))
+unfolding run fieldsFrom
+fields-on [] from at n e =
+    let k : at ≡ n = omega arith in
+    rw k (ap (fieldThen from n) (sym (none-in-hand (n + 1))))
+fields-on (b ∷ s) from at n e = go (isBlank b) e (λ q. fields-on s from (at + 1) n q)
   where
-    go : (t : Bool)
-        → gathered f (elim t [ true ↦ record { from = from; to = to } ∷ ps | false ↦ ps ])
-        ≡ gathered (gathered f (elim t [ true ↦ record { from = from; to = to } ∷ [] | false ↦ [] ])) ps
-    go true = refl
-    go false = refl
+    go : (t : Bool) → n ≡ at + elim (not t) [ true ↦ firstAt 32 s + 1 | false ↦ 0 ]
+        → (n ≡ at + 1 + firstAt 32 s → fieldsFrom from (at + 1) s ≡ fieldThen from n (fieldsFrom (n + 1) (n + 1) (drop (firstAt 32 s + 1) s)))
+        → elim t [ true ↦ fieldThen from at (fieldsFrom (at + 1) (at + 1) s) | false ↦ fieldsFrom from (at + 1) s ]
+        ≡ fieldThen from n (fieldsFrom (n + 1) (n + 1) (drop (elim (not t) [ true ↦ firstAt 32 s + 1 | false ↦ 0 ] + 1) (b ∷ s)))
+    go true q g = ap (λ (k : ℕ). fieldThen from k (fieldsFrom (k + 1) (k + 1) s)) (omega arith)
+    go false q g = rw (add-one (firstAt 32 s + 1)) (g (omega arith))
+
+module _ (s : List ℕ) (from : ℕ) where
+  pub fields-next : (to : ℕ) → to ≡ from + firstAt 32 (drop from s)
+      → fieldsFrom from from (drop from s) ≡ fieldThen from to (fieldsFrom (to + 1) (to + 1) (drop (to + 1) s))
+  fields-next to e =
+      let k : from + (firstAt 32 (drop from s) + 1) ≡ to + 1 = omega arith in
+      fields-on (drop from s) from from to e ∙ rw (drop-drop (firstAt 32 (drop from s) + 1) from s, k)
+
+  pub fields-end : length s ≤ from → fieldsFrom from from (drop from s) ≡ []
+  unfolding fieldsFrom
+  fields-end h = rw (drop-of-length-le s h) (none-in-hand from)
+
+-- the field in hand gathered: there is none, it is kept, or it is only counted
+module _ (f : Fields) (from to : ℕ) (ps : List Span) where
+  pub gather-none : to ≤ from → gathered f (fieldThen from to ps) ≡ gathered f ps
+  unfolding fieldThen
+  gather-none h = rw (le-ltb from to h, fieldThen)
+
+  pub gather-kept : from < to → f .count < 7
+      → gathered f (fieldThen from to ps) ≡ gathered (record { count = f .count + 1; spans = set (f .spans) (f .count) (record { from = from; to = to }) }) ps
+  unfolding fieldThen fieldMore gathered
+  gather-kept h k = rw (lt-ltb from to h, fieldThen) (rw (lt-ltb (f .count) 7 k, fieldMore))
+
+  pub gather-past : from < to → 7 ≤ f .count → gathered f (fieldThen from to ps) ≡ gathered (record { count = 8; spans = f .spans }) ps
+  unfolding fieldThen fieldMore gathered
+  gather-past h k = rw (lt-ltb from to h, fieldThen) (rw (le-ltb (f .count) 7 k, fieldMore))
 
 -- ---- the line at a place, as its two walks found it
 
@@ -183,7 +204,24 @@ module _ (w s : List ℕ) (at : ℕ) (p : at ≡ 0 + blanks s) where
       rw at-is
       (rw (e, drop-drop (length w) at s) (ap (begins (bytes "=")) (drop-drop _ (at + length w) s ∙ ap (λ (k : ℕ). drop k s) (sym q))))
 
+-- what does not begin with a word's first byte does not begin with the word
+begins-first : (b : ℕ) (w s : List ℕ) → begins (b ∷ []) s ≡ false → begins (b ∷ w) s ≡ false
+unfolding agrees
+begins-first b w [] e = refl
+begins-first b w (a ∷ s) e = go (eqb a b) e
+  where
+    go : (t : Bool) → t && true ≡ false → t && begins w s ≡ false
+    go true q = absurd (true≢false q)
+    go false q = refl
+
 module _ (s : List ℕ) (at : ℕ) (p : at ≡ 0 + blanks s) where
+  pub no-heading : begins (bytes "C") (drop at s) ≡ false → headingOf s ≡ Nothing
+  unfolding bytes headingOf
+  no-heading e =
+      let o : heads (bytes "CCSDS_OPM_VERS") s ≡ false = heads-no _ s at p (begins-first _ _ _ e) in
+      let m : heads (bytes "CCSDS_OEM_VERS") s ≡ false = heads-no _ s at p (begins-first _ _ _ e) in
+      rw (o, headingOf) (rw m)
+
   here : blanks s ≡ at
   here = omega arith
 

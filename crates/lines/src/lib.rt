@@ -1,12 +1,15 @@
 // A feed's lines and what a line's text is made of. Every function answers for any bytes.
+use words::BLOCK;
 use words::begins_at;
 use words::byte_at;
+use words::byte_from;
 ghost use mathlib.Core.Path.{_≡_};
-ghost use mathlib.Core.List.{[]};
+ghost use mathlib.Core.Bool.{not};
 ghost use Prim.Native.Nat.{_+_, _≤_, _<_};
 ghost use lib.ListN.{length, drop};
+ghost use Rattle.words.specs.Words.{every, blocksOf, firstAt};
 ghost use Rattle.lines.specs.Feed.{textLen, endWith, endLen, endsOf};
-ghost use Rattle.lines.specs.Text.{blanks, cutEnd, trimOf, oddAt, moved, headingOf, heads, commentOf, wordEnds, sidesOf, assignmentOf, fieldMore, fieldThen, gathered, splitOf};
+ghost use Rattle.lines.specs.Text.{blanks, cutEnd, trimOf, isOdd, oddAt, moved, headingOf, heads, commentOf, wordEnds, sidesOf, assignmentOf, splitOf};
 
 // A part of a text: from one place up to another.
 pub struct Span {
@@ -50,18 +53,63 @@ pub struct Fields {
     pub spans: [Span; 7],
 }
 
+// A byte outside 32 to 126.
+fn is_odd(b: u8) -> bool
+    ensures { λ r. ⌜ r ≡ isOdd b ⌝ }
+{
+    if b < 32 {
+        return true;
+    }
+    126 < b
+}
+
+// None of these bytes is outside 32 to 126; as `words::is_without`, with no way out before the end.
+fn is_plain(block: &[u8]) -> bool
+    ensures { λ r. ⌜ r ≡ every (λ b. not (isOdd b)) (now (block .entry)) ⌝ }
+{
+    let mut plain = true;
+    let mut i = 0;
+    while i < block.len() {
+        if is_odd(block[i]) {
+            plain = false;
+        }
+        i += 1;
+    }
+    plain
+}
+
+// From `from` on, the start of the first block that has a byte outside 32 to 126, or of what is no whole block.
+fn plain_blocks(text: &[u8], from: usize) -> usize
+    ensures { λ r. ⌜ r ≡ from + blocksOf (oddAt (drop from (now (text .entry)))) ⌝ }
+{
+    if text.len() < BLOCK {
+        return from;
+    }
+    let last = text.len() - BLOCK;
+    let mut at = from;
+    while at <= last {
+        if !is_plain(&text[at..at + BLOCK]) {
+            return at;
+        }
+        at += BLOCK;
+    }
+    at
+}
+
 // The place of the first CR or LF at or after `from`, or the feed's end.
 fn text_end(feed: &[u8], from: usize) -> usize
     ensures { λ r. ⌜ r ≡ from + textLen (drop from (now (feed .entry))) ⌝ }
 {
-    let mut end = from;
+    let mut end = plain_blocks(feed, from); // no block of bytes 32 to 126 has an ending
     while end < feed.len() {
         let b = feed[end];
-        if b == 13 {
-            return end;
-        }
-        if b == 10 {
-            return end;
+        if b < 14 {
+            if b == 13 {
+                return end;
+            }
+            if b == 10 {
+                return end;
+            }
         }
         end += 1;
     }
@@ -152,13 +200,9 @@ pub fn trim(text: &[u8]) -> Span
 pub fn odd_at(text: &[u8]) -> usize
     ensures { λ r. ⌜ r ≡ oddAt (now (text .entry)) ⌝ }
 {
-    let mut at = 0;
+    let mut at = plain_blocks(text, 0);
     while at < text.len() {
-        let b = text[at];
-        if b < 32 {
-            return at;
-        }
-        if 126 < b {
+        if is_odd(text[at]) {
             return at;
         }
         at += 1;
@@ -182,6 +226,9 @@ fn heads_with(text: &[u8], word: &[u8]) -> bool
 pub fn heading_of(text: &[u8]) -> Heading
     ensures { λ r. ⌜ r ≡ headingOf (now (text .entry)) ⌝ }
 {
+    if !begins_at(text, blanks_end(text, 0), b"C") {
+        return Heading::Nothing; // as nearly every line does
+    }
     if heads_with(text, b"CCSDS_OPM_VERS") {
         return Heading::Opm;
     }
@@ -250,51 +297,24 @@ pub fn assignment_of(text: &[u8]) -> Assignment
     Assignment::Other
 }
 
-// One field more: the first seven are kept.
-fn field_more(f: Fields, p: Span) -> Fields
-    ensures { λ r. ⌜ r ≡ fieldMore f p ⌝ }
-{
-    let n = f.count;
-    let mut spans = f.spans;
-    if n < 7 {
-        spans[n] = p;
-        Fields {
-            count: n + 1,
-            spans,
-        }
-    } else {
-        Fields { count: 8, spans }
-    }
-}
-
-// The field in hand, if there is one: it starts before the place where it would end.
-fn field_then(f: Fields, from: usize, to: usize) -> Fields
-    ensures { λ r. ⌜ r ≡ gathered f (fieldThen from to []) ⌝ }
-{
-    if from < to {
-        return field_more(f, Span { from, to });
-    }
-    f
-}
-
 // The fields of a text, parted by runs of blanks.
 pub fn fields_of(text: &[u8]) -> Fields
     ensures { λ r. ⌜ r ≡ splitOf (now (text .entry)) ⌝ }
 {
-    let mut f = Fields {
-        count: 0,
-        spans: [Span { from: 0, to: 0 }; 7],
-    };
+    let mut spans = [Span { from: 0, to: 0 }; 7];
+    let mut count = 0;
     let mut from = 0;
-    let mut at = 0;
-    while at < text.len() {
-        let b = text[at];
-        let to = at;
-        at += 1;
-        if b == 32 {
-            f = field_then(f, from, to);
-            from = at;
+    while from < text.len() {
+        let to = byte_from(text, from, 32);
+        if from < to {
+            if count < 7 {
+                spans[count] = Span { from, to };
+                count += 1;
+            } else {
+                count = 8;
+            }
         }
+        from = to + 1;
     }
-    field_then(f, from, at)
+    Fields { count, spans }
 }

@@ -4,11 +4,12 @@ use mathlib.Core.Path.{_≡_, refl, ap, _∙_}
 use mathlib.Core.List.{List, [], _∷_}
 use mathlib.Core.Bool.{Bool, true, false, _&&_, _||_}
 use Prim.Native.Nat.{ℕ, suc, _+_, _-_, _*_, _≤_, _<_}
+use native.Mathlib.Nat.{add-sub-cancel-left}
 use native.Mathlib.Numerals.{add-one}
 use native.Mathlib.Omega.{arith}
 use lib.Dec.{eqb, leb}
 use lib.ListN.{length, getD, take, drop, drop-of-length-le}
-use lib.Seq.{drop-cons}
+use lib.Seq.{drop-cons, drop-drop}
 use Rattle.words.proofs.Laws.{part-from}
 use Rattle.values.specs.Number.{signLen, digits, isDigits, unsigned, isExponent, endsNumber, afterWhole, digitsFrom, integerTop}
 
@@ -37,10 +38,11 @@ module _ (s : List ℕ) (h : length s ≡ 0 → ⊥) where
   unfolding endsNumber
   ends-some n m = ap (endsNumber n m) some ∙ rw (← some)
 
-  pub whole-some : (n : ℕ)
-      → let m = digits (drop 1 s) in afterWhole n s ≡ eqb (getD s 0 0) 46 && (leb 1 m && endsNumber n m (drop m (drop 1 s)))
+  -- e is where the digits end that stand behind the first byte
+  pub whole-some : (n e : ℕ) → e ≡ 1 + digits (drop 1 s)
+      → afterWhole n s ≡ eqb (getD s 0 0) 46 && (leb 1 (e - 1) && endsNumber n (e - 1) (drop e s))
   unfolding afterWhole
-  whole-some n = ap (afterWhole n) some
+  whole-some n e k = ap (afterWhole n) some ∙ rw (k, add-sub-cancel-left, ← drop-drop _ 1 s)
 
 -- ---- a part of a list that begins where a count of the list ends
 

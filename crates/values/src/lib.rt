@@ -3,25 +3,32 @@ use words::is_word;
 ghost use mathlib.Core.Path.{_≡_};
 ghost use Prim.Native.Nat.{_+_, _-_, _<_, _≤_, _^_};
 ghost use lib.Dec.{leb};
-ghost use lib.ListN.{length};
+ghost use lib.ListN.{length, drop};
 ghost use Rattle.values.specs.Number.{digits, signLen, isDigits, isExponent, endsNumber, afterWhole, isNumber, digitsFrom, integerTop, isInteger, isText, isVersion};
+
+// The place of the first byte at or after `from` that is no digit, or the text's end.
+fn digits_end(text: &[u8], from: usize) -> usize
+    ensures { λ r. ⌜ r ≡ from + digits (drop from (now (text .entry))) ⌝ }
+{
+    let mut at = from;
+    while at < text.len() {
+        let b = text[at];
+        if b < 48 {
+            return at;
+        }
+        if 57 < b {
+            return at;
+        }
+        at += 1;
+    }
+    at
+}
 
 // How many digits stand first.
 pub fn digits_of(text: &[u8]) -> usize
     ensures { λ r. ⌜ r ≡ digits (now (text .entry)) ⌝ }
 {
-    let mut i = 0;
-    while i < text.len() {
-        let b = text[i];
-        if b < 48 {
-            return i;
-        }
-        if 57 < b {
-            return i;
-        }
-        i += 1;
-    }
-    i
+    digits_end(text, 0)
 }
 
 // How many bytes the sign takes that stands first.
@@ -100,12 +107,12 @@ fn after_whole(text: &[u8], n: usize) -> bool
     if text[0] != 46 {
         return false;
     }
-    let rest = &text[1..];
-    let m = digits_of(rest);
+    let end = digits_end(text, 1);
+    let m = end - 1;
     if m < 1 {
         return false;
     }
-    ends_number(&rest[m..], n, m)
+    ends_number(&text[end..], n, m)
 }
 
 pub fn is_number(text: &[u8]) -> bool

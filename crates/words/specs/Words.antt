@@ -1,6 +1,6 @@
 -- Words as they are written in document 01, as the bytes that a feed holds.
 -- Assumes nothing.
-use Prim.Native.Nat.{ℕ, _+_}
+use Prim.Native.Nat.{ℕ, _+_, _*_, _/_}
 use Prim.Native.Char.{code}
 use Prim.Native.String.{String}
 use mathlib.Core.List.{List, [], _∷_}
@@ -27,6 +27,15 @@ begins w s = agrees (λ a b. eqb b a) w s
 unfoldable pub run : (ℕ → Bool) → List ℕ → ℕ
 run p [] = 0
 run p (b ∷ s) = elim (p b) [ true ↦ run p s + 1 | false ↦ 0 ]
+
+-- every byte passes a test
+unfoldable pub every : (ℕ → Bool) → List ℕ → Bool
+every p [] = true
+every p (b ∷ s) = p b && every p s
+
+-- of so many bytes, those that whole blocks of sixteen take
+abbrev pub blocksOf : ℕ → ℕ
+blocksOf n = n / 16 * 16
 
 -- the first place of a byte, or the length where it is not there
 abbrev pub firstAt : ℕ → List ℕ → ℕ

@@ -1,26 +1,28 @@
--- `epochs::has_shape` meets its contract: what is left of the shape against what is left of the text is what the whole was.
+-- `epochs::has_shape` meets its contract: no shorter text has the shape, and in another the flag and what is left of both are what the whole was.
 -- Assumes nothing.
 use Prim.Native.Nat.{_-_}
-use mathlib.Core.Path.{_≡_, refl, sym, _∙_}
+use mathlib.Core.Path.{_≡_, refl, ap, sym, _∙_}
+use mathlib.Core.Bool.{_&&_, and-true, and-false, not-eq-not}
+use mathlib.Core.Logic.{⊎-elim}
 use native.Mathlib.Omega.{arith}
 use lib.ListN.{length, drop}
 use borrow.Author.Tests.{not-true, not-false}
 use Rattle.epochs.specs.Epoch.{shaped}
-use Rattle.words.proofs.Laws.{agrees-end, agrees-short, agrees-more, agrees-stop}
+use Rattle.words.proofs.Laws.{agrees-end, agrees-more, agrees-stop, agrees-le}
 use Rattle.epochs.proofs.has_shape.Statement.{statement}
 use Rattle.epochs.proofs.has_shape.Tie as tie
 
 abbrev Inv-loop : tie.InvT-loop
-Inv-loop text shape i₀ i = shaped shape text ≡ shaped (drop i shape) (drop i text)
+Inv-loop text shape fits₀ i₀ fits i = shaped shape text ≡ fits && shaped (drop i shape) (drop i text)
 
 abbrev μ-loop : tie.MeasureT-loop
-μ-loop text shape i₀ i = length shape - i
+μ-loop text shape fits₀ i₀ fits i = length shape - i
+
+returns : tie.Need-returns Inv-loop μ-loop
+returns c = sym (not-eq-not .0 (λ e. omega (arith, agrees-le _ _ _ e)))
 
 loop-holds : tie.Need-loop-holds Inv-loop μ-loop
 loop-holds c = refl
-
-returns : tie.Need-returns Inv-loop μ-loop
-returns c = sym (c .before .before .loop .inv ∙ agrees-short _ _ _ _ (c .before .loop-test .taken) (c .if1 .taken))
 
 shared-slice-read-fits-shape : tie.Need-shared-slice-read-fits-shape Inv-loop μ-loop
 shared-slice-read-fits-shape c = omega arith
@@ -31,12 +33,6 @@ shared-slice-read-fits-shape-2 c = omega arith
 fits-shape-requires : tie.Need-fits-shape-requires Inv-loop μ-loop
 fits-shape-requires c κs = tt
 
-returns-2 : tie.Need-returns-2 Inv-loop μ-loop
-returns-2 c =
-    let e = c .before .before .before .before in
-    let f = sym (c .before .fits-shape .ensures) ∙ not-true _ (c .if2 .taken) in
-    sym (e .before .before .loop .inv ∙ agrees-stop _ _ _ _ (e .before .loop-test .taken) (e .if1 .left) f)
-
 add-i : tie.Need-add-i Inv-loop μ-loop
 add-i c = omega arith
 
@@ -45,12 +41,19 @@ loop-less c = omega arith
 
 loop-again : tie.Need-loop-again Inv-loop μ-loop
 loop-again c =
-    let e = c .before .before .before .before in
-    let f = sym (c .before .fits-shape .ensures) ∙ not-false _ (c .if2 .left) in
-    e .before .before .loop .inv ∙ agrees-more _ _ _ _ (e .before .loop-test .taken) (e .if1 .left) f
+    let f = sym (c .before .fits-shape .ensures) in
+    let r = c .before .before in
+    let k = shared-slice-read-fits-shape-2 r in
+    let h = r .before .before .loop-test .taken in
+    let l = r .before .before .before .loop in
+    l .inv
+    ∙ ⊎-elim
+    (λ w. ap (_&&_ (l .fits)) (agrees-stop _ _ _ _ h k (f ∙ not-true _ (w .0 .taken))) ∙ rw (w .1, and-false))
+    (λ w. ap (_&&_ (l .fits)) (agrees-more _ _ _ _ h k (f ∙ not-false _ (w .0 .left))) ∙ rw (w .1))
+    (c .if2 .came)
 
-returns-3 : tie.Need-returns-3 Inv-loop μ-loop
-returns-3 c = sym (c .before .loop .inv ∙ agrees-end _ _ _ _ (c .loop-test .left))
+returns-2 : tie.Need-returns-2 Inv-loop μ-loop
+returns-2 c = sym (c .before .loop .inv ∙ rw (agrees-end _ _ _ _ (c .loop-test .left), and-true))
 
 pub has-shape-spec : {M : Type 1} → statement M
 has-shape-spec =
@@ -58,13 +61,12 @@ has-shape-spec =
     (tie.spec
     Inv-loop
     μ-loop
-    loop-holds
     returns
+    loop-holds
     shared-slice-read-fits-shape
     shared-slice-read-fits-shape-2
     fits-shape-requires
-    returns-2
     add-i
     loop-less
     loop-again
-    returns-3)
+    returns-2)

@@ -1,56 +1,68 @@
 -- `lines::fields_of` meets its contract: the fields gathered, then those of what is left, are those of the whole.
 -- Assumes nothing.
-use Prim.Native.Nat.{_-_}
+use Prim.Native.Nat.{_+_, _-_, _≤_}
 use mathlib.Core.Path.{_≡_, refl, sym, ap, _∙_}
+use mathlib.Core.Bool.{not}
+use mathlib.Core.Logic.{⊎-elim}
 use native.Mathlib.Omega.{arith}
-use lib.ListN.{length, drop}
+use lib.Dec.{eqb}
+use lib.ListN.{length, drop, length-drop}
+use Rattle.words.proofs.Laws.{run-le}
 use Rattle.lines.specs.Text.{fieldsFrom, gathered, splitOf}
-use Rattle.lines.proofs.Laws.{fields-end, fields-blank, fields-more, gather-then}
+use Rattle.lines.proofs.Laws.{fields-next, fields-end, gather-none, gather-kept, gather-past}
 use Rattle.lines.proofs.fields_of.Statement.{statement}
 use Rattle.lines.proofs.fields_of.Tie as tie
 
 abbrev Inv-loop : tie.InvT-loop
-Inv-loop text f₀ from₀ at₀ f from at = splitOf text ≡ gathered f (fieldsFrom from at (drop at text))
+Inv-loop text spans₀ count₀ from₀ spans count from =
+    splitOf text ≡ gathered (record { count = count; spans = spans }) (fieldsFrom from from (drop from text))
 
 abbrev μ-loop : tie.MeasureT-loop
-μ-loop text f₀ from₀ at₀ f from at = length text - at
+μ-loop text spans₀ count₀ from₀ spans count from = length text - from
 
 loop-holds : tie.Need-loop-holds Inv-loop μ-loop
 loop-holds c = refl
 
-shared-slice-read-b : tie.Need-shared-slice-read-b Inv-loop μ-loop
-shared-slice-read-b c = omega arith
+byte-from-requires : tie.Need-byte-from-requires Inv-loop μ-loop
+byte-from-requires c κs = tt
 
-add-at : tie.Need-add-at Inv-loop μ-loop
-add-at c = omega arith
+-- the field's end is no further than the text's
+within : (c : tie.After-byte-from Inv-loop μ-loop) → c .byte-from .result ≤ length (c .before .before .before .before .args .text .now)
+within c =
+    let l = c .before in
+    let s = drop (l .before .loop .from) (l .before .before .before .args .text .now) in
+    omega (arith, c .byte-from .ensures, run-le (λ b. not (eqb b 32)) s, length-drop (l .before .loop .from) (l .before .before .before .args .text .now))
 
-field-then-requires : tie.Need-field-then-requires Inv-loop μ-loop
-field-then-requires c κs = tt
+mul-spans : tie.Need-mul-spans Inv-loop μ-loop
+mul-spans c = omega arith
+
+array-set-from-spans : tie.Need-array-set-from-spans Inv-loop μ-loop
+array-set-from-spans c = omega arith
+
+add-count : tie.Need-add-count Inv-loop μ-loop
+add-count c = omega arith
+
+add-from : tie.Need-add-from Inv-loop μ-loop
+add-from c = omega (arith, within (c .before))
 
 loop-less : tie.Need-loop-less Inv-loop μ-loop
-loop-less c = omega arith
+loop-less c = omega (arith, within (c .before))
 
 loop-again : tie.Need-loop-again Inv-loop μ-loop
 loop-again c =
-    let l = c .before .before .before in
-    l .before .loop .inv
-    ∙ ap (gathered _) (fields-blank _ _ _ (l .loop-test .taken) (c .before .if1 .taken))
-    ∙ gather-then _ _ _ _
-    ∙ rw (c .field-then .ensures)
-
-loop-less-2 : tie.Need-loop-less-2 Inv-loop μ-loop
-loop-less-2 c = omega arith
-
-loop-again-2 : tie.Need-loop-again-2 Inv-loop μ-loop
-loop-again-2 c =
-    let l = c .before .before in
-    l .before .loop .inv ∙ ap (gathered _) (fields-more _ _ _ (l .loop-test .taken) (c .if1 .left))
-
-field-then-requires-2 : tie.Need-field-then-requires-2 Inv-loop μ-loop
-field-then-requires-2 c κs = tt
+    let e = c .before in
+    let l = e .before .before .loop in
+    let q = l .inv ∙ ap (gathered _) (fields-next _ _ _ (e .byte-from .ensures)) in
+    ⊎-elim
+    (λ t. rw (t .2, t .3) (q ∙ gather-kept _ _ _ _ (t .0 .taken) (t .1 .taken)))
+    (⊎-elim
+    (λ t. rw (t .2, t .3) (q ∙ gather-past _ _ _ _ (t .0 .taken) (t .1 .left)))
+    (λ t. rw (t .1, t .2) (q ∙ gather-none _ _ _ _ (t .0 .left))))
+    (c .if1 .came)
 
 returns : tie.Need-returns Inv-loop μ-loop
-returns c = sym (c .before .before .loop .inv ∙ ap (gathered _) (fields-end _ _ _ (c .before .loop-test .left)) ∙ sym (c .field-then2 .ensures))
+unfolding gathered
+returns c = sym (c .before .loop .inv ∙ ap (gathered _) (fields-end _ _ (c .loop-test .left)))
 
 pub fields-of-spec : {M : Type 1} → statement M
 fields-of-spec =
@@ -59,12 +71,11 @@ fields-of-spec =
     Inv-loop
     μ-loop
     loop-holds
-    shared-slice-read-b
-    add-at
-    field-then-requires
+    byte-from-requires
+    mul-spans
+    array-set-from-spans
+    add-count
+    add-from
     loop-less
     loop-again
-    loop-less-2
-    loop-again-2
-    field-then-requires-2
     returns)

@@ -1,56 +1,20 @@
--- `words::byte_at` meets its contract: a walk along the bytes before the first such byte.
+-- `words::byte_at` meets its contract: the walk may begin behind the whole blocks that are without the byte.
 -- Assumes nothing.
-use Prim.Native.Nat.{_+_, _-_}
-use mathlib.Core.Path.{_≡_}
-use native.Mathlib.Omega.{arith}
-use lib.ListN.{length, drop}
-use Rattle.words.proofs.Laws.{walk-more, walk-stop, walk-end}
-use borrow.Author.Tests.{eq-eqb, ne-eqb}
-use Rattle.words.specs.Words.{firstAt}
+use mathlib.Core.Path.{sym, _∙_}
+use native.Mathlib.Nat.{zero-add}
+use borrow.Author.Needs.{needs}
+use Rattle.words.proofs.Laws.{walk-skip}
 use Rattle.words.proofs.byte_at.Statement.{statement}
 use Rattle.words.proofs.byte_at.Tie as tie
 
-abbrev Inv-loop : tie.InvT-loop
-Inv-loop text byte at₀ at = firstAt byte text ≡ at + firstAt byte (drop at text)
+blocks-without-requires : tie.Need-blocks-without-requires
+blocks-without-requires c κs = search needs
 
-abbrev μ-loop : tie.MeasureT-loop
-μ-loop text byte at₀ at = length text - at
+byte-from-requires : tie.Need-byte-from-requires
+byte-from-requires c κs = search needs
 
-loop-holds : tie.Need-loop-holds Inv-loop μ-loop
-loop-holds c = omega arith
-
-shared-slice-read-if1 : tie.Need-shared-slice-read-if1 Inv-loop μ-loop
-shared-slice-read-if1 c = omega arith
-
-returns : tie.Need-returns Inv-loop μ-loop
-returns c =
-    let l = c .before .before in
-    walk-stop _ _ _ _ (l .before .loop .inv) (l .loop-test .taken) (simp (eq-eqb _ _ (c .if1 .taken)))
-
-add-at : tie.Need-add-at Inv-loop μ-loop
-add-at c = omega arith
-
-loop-less : tie.Need-loop-less Inv-loop μ-loop
-loop-less c = omega arith
-
-loop-again : tie.Need-loop-again Inv-loop μ-loop
-loop-again c =
-    let l = c .before .before in
-    walk-more _ _ _ _ (l .before .loop .inv) (l .loop-test .taken) (simp (ne-eqb _ _ (c .if1 .left)))
-
-returns-2 : tie.Need-returns-2 Inv-loop μ-loop
-returns-2 c = walk-end _ _ _ _ (c .before .loop .inv) (c .loop-test .left)
+returns : tie.Need-returns
+returns c = c .byte-from .ensures ∙ sym (sym (zero-add _) ∙ walk-skip _ _ (λ b e. e) _ 0 _ (c .before .blocks-without .ensures ∙ sym (zero-add _)))
 
 pub byte-at-spec : {M : Type 1} → statement M
-byte-at-spec =
-    tie.close
-    (tie.spec
-    Inv-loop
-    μ-loop
-    loop-holds
-    shared-slice-read-if1
-    returns
-    add-at
-    loop-less
-    loop-again
-    returns-2)
+byte-at-spec = tie.close (tie.spec blocks-without-requires byte-from-requires returns)
