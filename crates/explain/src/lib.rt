@@ -168,7 +168,7 @@ fn explain_from(feed: &[u8], from: usize, form: Form) -> Explained
     let mut rows: u32 = 0;
     let mut state = State::fresh(form);
     loop {
-        let moved = next_line(feed, at, line == 1, state);
+        let moved = next_line(feed, at, line == 1, state, false);
         let met = moved.met;
         match met {
             Met::End => return explain_end(state, at, line, rows),

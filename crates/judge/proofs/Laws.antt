@@ -3,7 +3,7 @@
 use mathlib.Core.Path.{_≡_, refl, sym, ap, _∙_}
 use mathlib.Core.List.{List, [], _∷_}
 use mathlib.Core.Logic.{_⊎_, inl, inr, ⊎-elim}
-use mathlib.Core.Bool.{Bool, true, false, not, _&&_}
+use mathlib.Core.Bool.{Bool, true, false, not, _&&_, false≢true}
 use Prim.Native.Nat.{ℕ, _+_, _-_, _≤_, _<_}
 use native.Mathlib.Omega.{arith}
 use lib.Dec.{ltb}
@@ -28,7 +28,7 @@ use Rattle.judge.specs.declared.Sighted.the-variants as Sight
 use Rattle.judge.specs.declared.Met.{Met}
 use Rattle.judge.specs.declared.Met.the-variants.{End, Offence, Within}
 use Rattle.judge.specs.declared.Moved.{Moved}
-use Rattle.judge.specs.Message.{isHeading, formOf, fromHeading, headings, upTo, texts, endOf, judgeTexts, judgeLines, messageOf, judgeOf, feedLimit, metOf, movedOf, foundOf, FoundIs, sightedOf, SightedIs, rowsFrom, rowsLines, rowsOf}
+use Rattle.judge.specs.Message.{isHeading, formOf, fromHeading, headings, upTo, texts, endOf, judgeTexts, judgeLines, messageOf, judgeOf, feedLimit, metOf, movedOf, SureNext, foundOf, FoundIs, sightedOf, SightedIs, rowsFrom, rowsLines, rowsOf}
 
 -- ---- past the feed's end
 
@@ -138,6 +138,22 @@ pub moved-more : (f : List ℕ) (at : ℕ) (first : Bool) (st : State) (e : Ends
     → movedOf st at (drop at f) (left f at first) ≡ record { met = k; step = x; next = e .next }
 unfolding movedOf endsOf
 moved-more f at first st e q p x px k pk = rw (p, pk, px) (rw q)
+
+-- whoever is not sure has nothing to know
+pub unsure : (st : State) (ls : List Line) → SureNext false st ls
+unfolding SureNext
+unsure st [] = tt
+unsure st (l ∷ ls) = λ e. absurd (false≢true e)
+
+-- the next line of what is accepted is right
+pub sure-next : (sure : Bool) (st : State) (line rows : ℕ) {n : ℕ} (ls : List Line) → judgeTexts st line rows (texts ls) ≡ Accepted n → SureNext sure st ls
+unfolding SureNext judgeTexts
+sure-next sure st line rows [] e = tt
+sure-next sure st line rows {n} (l ∷ ls) e = λ z. go _ (stepOf st (l .text) .verdict) e
+  where
+    go : (j : Judged) (v : Verdict) → elim v [ Wrong r ↦ Refused r line | Right ↦ j ] ≡ Accepted n → v ≡ Right
+    go j (Wrong r) q = cc
+    go j Right q = refl
 
 -- the walk is at a line
 pub record AtLine (f : List ℕ) (at : ℕ) (first : Bool) (st : State) (m : Moved) : Type 0 where

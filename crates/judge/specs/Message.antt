@@ -14,7 +14,7 @@ use Rattle.lines.specs.declared.Heading.the-variants as Kinds
 use Rattle.grammar.specs.Order.{nextOf}
 use Rattle.grammar.specs.declared.Form.{Form}
 use Rattle.grammar.specs.declared.Form.the-variants.{Opm, Oem}
-use Rattle.step.specs.Step.{noRow, freshState, stepOf}
+use Rattle.step.specs.Step.{noRow, freshState, Sure, stepOf}
 use Rattle.reasons.specs.declared.Reason.the-variants as Reasons
 use Rattle.step.specs.declared.Verdict.{Verdict}
 use Rattle.step.specs.declared.Verdict.the-variants.{Right, Wrong}
@@ -111,6 +111,11 @@ metOf Right = Within
 unfoldable pub movedOf : State → ℕ → List ℕ → List Line → Moved
 movedOf st at s [] = record { met = End; step = noRow st; next = at }
 movedOf st at s (l ∷ ls) = let x = stepOf st (l .text) in record { met = metOf (x .verdict); step = x; next = at + lineLen s }
+
+-- whoever is sure of a message's lines knows that the next one is right
+unfoldable pub SureNext : Bool → State → List Line → Type 0
+SureNext sure st [] = Unit {0}
+SureNext sure st (l ∷ ls) = Sure sure (stepOf st (l .text))
 
 -- the place of the first of these lines, and the message type that it opens
 unfoldable pub foundOf : List Line → Found

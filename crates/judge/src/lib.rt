@@ -11,7 +11,7 @@ ghost use Prim.Native.Nat.{_≤_};
 ghost use lib.ListN.{length, drop};
 ghost use Rattle.lines.specs.Feed.{lines, linesAt};
 ghost use Rattle.step.specs.Step.{noRow, freshState};
-ghost use Rattle.judge.specs.Message.{isHeading, formOf, fromHeading, headings, upTo, texts, endOf, judgeTexts, judgeOf, countOf, metOf, movedOf, feedLimit, foundOf, FoundIs, sightedOf, SightedIs};
+ghost use Rattle.judge.specs.Message.{isHeading, formOf, fromHeading, headings, upTo, texts, endOf, judgeTexts, judgeOf, countOf, metOf, movedOf, SureNext, feedLimit, foundOf, FoundIs, sightedOf, SightedIs};
 
 // A feed has at most so many bytes.
 pub const FEED_LIMIT: usize = 16777215;
@@ -137,8 +137,9 @@ pub fn count_headings(feed: &[u8]) -> Counted
     Counted::Headings(headings_in(feed))
 }
 
-// The next line of a message, judged: shared by judging and filling.
-pub fn next_line(feed: &[u8], at: usize, first: bool, state: State) -> Moved
+// The next line of a message, judged; shared by judging and by the walks that come behind, which are sure of every line.
+pub fn next_line(feed: &[u8], at: usize, first: bool, state: State, sure: bool) -> Moved
+    requires { ⌜ SureNext sure state (upTo first (linesAt at (drop at (now feed)))) ⌝ }
     ensures { λ r. ⌜ r ≡ movedOf state at (drop at (now (feed .entry))) (upTo first (linesAt at (drop at (now (feed .entry))))) ⌝ }
 {
     if feed.len() <= at {
@@ -152,7 +153,7 @@ pub fn next_line(feed: &[u8], at: usize, first: bool, state: State) -> Moved
             return over(at, state);
         }
     }
-    let step = state.step(text);
+    let step = state.step(text, sure);
     let verdict = step.verdict;
     let met = met_by(verdict);
     Moved {
@@ -203,7 +204,7 @@ fn judge_from(feed: &[u8], from: usize, form: Form) -> Judged
     let mut rows: u32 = 0;
     let mut state = State::fresh(form);
     loop {
-        let moved = next_line(feed, at, line == 1, state);
+        let moved = next_line(feed, at, line == 1, state, false);
         let met = moved.met;
         match met {
             Met::End => return end_of(state, line, rows),

@@ -14,18 +14,22 @@ use Rattle.lines.specs.declared.Span.{Span}
 use Rattle.values.specs.Number.{isNumber}
 use lib.Dec.{eqb, ltb}
 use Rattle.words.proofs.Laws.{run-le}
-use Rattle.lines.specs.Text.{isBlank, equalsAt, trimOf, sidesOf, assignmentOf, fieldThen, fieldsFrom, fieldsIn, fieldMore, gathered, noFields, splitOf}
+use Rattle.lines.specs.Text.{isBlank, isLong, oddAt, equalsAt, trimOf, sidesOf, assignmentOf, fieldThen, fieldsFrom, fieldsIn, fieldMore, gathered, noFields, splitOf}
 use Rattle.lines.specs.declared.Sides.{Sides}
 use Rattle.lines.specs.declared.Fields.{Fields}
 use borrow.Author.Tests.{ltb-true}
 use Rattle.lines.proofs.Laws.{trim-within}
 use Rattle.epochs.specs.Epoch.{epochOf}
 use Rattle.epochs.specs.declared.Epoch.{Epoch}
+use Rattle.epochs.specs.declared.Instant.{Instant}
 use Rattle.grammar.specs.Keywords.{isUnit}
 use Rattle.grammar.specs.declared.Form.{Form}
 use Rattle.grammar.specs.declared.Form.the-variants.{Opm, Oem}
-use Rattle.step.specs.Step.{part, Inside, SevenInside, areNumbers, wordLen, numberOf, oneRow, past, pastComment, wrong, fieldsOf, dataOf}
+use Rattle.step.specs.Step.{part, Inside, SevenInside, areNumbers, isTimely, wordLen, numberOf, noRow, oneRow, sevenRows, past, pastData, pastComment, wrong, fieldsOf, dataAt, dataOf, filledOf, stepOf}
 use Rattle.step.specs.declared.State.{State}
+use Rattle.step.specs.declared.Step.{Step}
+use Rattle.step.specs.declared.Verdict.the-variants.{Right}
+use Rattle.reasons.specs.declared.Reason.{Reason}
 use Rattle.reasons.specs.declared.Reason.the-variants as Reasons
 
 -- ---- fields that are numbers, seen from a place in the list of spans
@@ -65,6 +69,26 @@ fields-in st s f e =
       | Oem ↦ elim (eqb (splitOf s .count) 7) [ false ↦ wrong st Reasons.Form | true ↦ dataOf st (splitOf s) s ]
     ])
     e
+
+-- ---- a line that is right passed each test on its way
+
+module _ (st : State) (r : Reason) {x y : Step} where
+  kept : (b : Bool) → y ≡ elim b [ true ↦ x | false ↦ wrong st r ] → y .verdict ≡ Right → y ≡ x
+  kept true p e = p
+  kept false p e = cc
+
+  spared : (b : Bool) → y ≡ elim b [ true ↦ wrong st r | false ↦ x ] → y .verdict ≡ Right → y ≡ x
+  spared true p e = cc
+  spared false p e = p
+
+module _ (st : State) (s : List ℕ) where
+  pub data-right : (f : Fields) (t : Instant) → dataAt st f t s .verdict ≡ Right → dataAt st f t s ≡ sevenRows (pastData st t) (f .spans)
+  unfolding dataAt
+  data-right f t e = kept st _ (isTimely st t) (kept st _ (areNumbers (drop 1 (f .spans)) s) refl e) e
+
+  pub step-right : stepOf st s .verdict ≡ Right → stepOf st s ≡ elim (eqb (trimOf s .to) 0) [ true ↦ noRow st | false ↦ filledOf st (trimOf s) s ]
+  unfolding stepOf
+  step-right e = spared st _ (ltb (oddAt s) (length s)) (spared st _ (isLong s) refl e) e
 
 -- ---- an epoch read by one who found out whether second 60 may stand
 

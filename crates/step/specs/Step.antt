@@ -93,6 +93,10 @@ pub record SevenInside (ps : List Span) (s : List ℕ) : Type 0 where
   pub size : length ps ≡ 7
   pub inside : (i : ℕ) → Inside (getD ps i noSpan) s
 
+-- whoever is sure of a line knows that it is right
+abbrev pub Sure : Bool → Step → Type 0
+Sure sure x = sure ≡ true → x .verdict ≡ Right
+
 -- ---- data lines
 
 -- "data epochs strictly increase within a segment and lie from START_TIME to STOP_TIME, ends included"; STOP_TIME is the latest time given

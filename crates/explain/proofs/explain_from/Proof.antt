@@ -12,10 +12,9 @@ use Rattle.lines.specs.Feed.{linesAt}
 use Rattle.lines.proofs.Lists.{Placed, placed}
 use Rattle.step.proofs.Sound.{spans}
 use Rattle.step.specs.declared.Verdict.the-variants.{Right, Wrong}
-use Rattle.judge.proofs.Laws.{walk-on}
+use Rattle.judge.proofs.Laws.{unsure, walk-on}
 use Rattle.explain.specs.Explain.{explainFrom}
 use Rattle.explain.proofs.Walk.{explained-end, explained-wrong, explained-right}
-use borrow.Author.Needs.{needs}
 use borrow.Author.Needs.{needs}
 use Rattle.explain.proofs.explain_from.Statement.{statement}
 use Rattle.explain.proofs.explain_from.Tie as tie
@@ -50,7 +49,7 @@ loop-holds : tie.Need-loop-holds Inv-loop μ-loop
 loop-holds c = (refl, omega arith, omega arith, omega arith, omega arith)
 
 next-line-requires : tie.Need-next-line-requires Inv-loop μ-loop
-next-line-requires c κs = tt
+next-line-requires c κs = unsure _ _
 
 enum-told : tie.Need-enum-told Inv-loop μ-loop
 enum-told c = search needs

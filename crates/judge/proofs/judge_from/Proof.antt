@@ -12,7 +12,7 @@ use borrow.Author.Tests.{ne-eqb}
 use Rattle.step.proofs.Sound.{spans}
 use Rattle.step.specs.declared.Verdict.the-variants.{Right}
 use Rattle.judge.specs.Message.{texts, judgeTexts}
-use Rattle.judge.proofs.Laws.{left, walk-on, judged-end, judged-wrong, judged-right}
+use Rattle.judge.proofs.Laws.{left, unsure, walk-on, judged-end, judged-wrong, judged-right}
 use Rattle.judge.proofs.judge_from.Statement.{statement}
 use Rattle.judge.proofs.judge_from.Tie as tie
 
@@ -38,7 +38,7 @@ loop-holds : tie.Need-loop-holds Inv-loop μ-loop
 loop-holds c = (refl, omega arith, omega arith, omega arith)
 
 next-line-requires : tie.Need-next-line-requires Inv-loop μ-loop
-next-line-requires c κs = tt
+next-line-requires c κs = unsure _ _
 
 enum-told : tie.Need-enum-told Inv-loop μ-loop
 enum-told c = search needs

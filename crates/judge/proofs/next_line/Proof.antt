@@ -1,11 +1,13 @@
 -- `judge::next_line` meets its contract: the feed's end, the next heading line, or the line judged.
 -- Assumes nothing.
-use mathlib.Core.Path.{sym, ap₂, _∙_}
+use mathlib.Core.Path.{_≡_, sym, ap₂, _∙_}
+use mathlib.Core.List.{_∷_}
 use mathlib.Core.Logic.{⊎-elim}
-use mathlib.Core.Bool.{_&&_}
+use mathlib.Core.Bool.{false, _&&_}
 use native.Mathlib.Omega.{arith}
 use Rattle.lines.proofs.Lists.{Placed, placed}
-use Rattle.judge.proofs.Laws.{over-up, up-stop, up-more, moved-end, moved-more}
+use Rattle.judge.specs.Message.{upTo, SureNext}
+use Rattle.judge.proofs.Laws.{lineAt, rest, left, over-up, up-stop, up-more, moved-end, moved-more}
 use borrow.Author.Needs.{needs}
 use Rattle.judge.proofs.next_line.Statement.{statement}
 use Rattle.judge.proofs.next_line.Tie as tie
@@ -43,19 +45,25 @@ returns-2 c =
     c .over2 .ensures ∙ sym (moved-end _ _ _ _ (up-stop _ _ _ (b .before .if1 .left) (b .line-at .ensures) _
     (ap₂ _&&_ (c .before .before .before .if2 .taken) (sym (c .before .before .is-heading .ensures) ∙ c .before .if3 .taken))))
 
+-- the message goes on with the line
+more : (c : tie.Joined2) → let e = c .before .before in let a = e .before .before .before .args in
+    left (a .feed .now) (a .at) (a .first) ≡ lineAt (a .feed .now) (a .at) (e .line-at .result) ∷ upTo false (rest (a .feed .now) (e .line-at .result))
+more c =
+    let e = c .before .before in
+    up-more _ _ _ (e .before .if1 .left) (e .line-at .ensures) _
+    (⊎-elim (λ w. ap₂ _&&_ (w .0 .taken) (sym (w .1 .ensures) ∙ w .2 .left)) (λ w. rw (w .left)) (c .if2 .came))
+
 step-requires : tie.Need-step-requires
-step-requires c κs = search needs
+unfolding SureNext
+step-requires c κs = rw (more c) at (c .before .before .before .before .before .pre)
 
 met-by-requires : tie.Need-met-by-requires
 met-by-requires c κs = search needs
 
 returns-3 : tie.Need-returns-3
 returns-3 c =
-    let b = c .before .before .before .before in
-    sym (moved-more _ _ _ _ _ (b .line-at .ensures)
-    (up-more _ _ _ (b .before .if1 .left) (b .line-at .ensures) _
-    (⊎-elim (λ w. ap₂ _&&_ (w .0 .taken) (sym (w .1 .ensures) ∙ w .2 .left)) (λ w. rw (w .left)) (c .before .before .if2 .came)))
-    _ (c .before .step .ensures) _ (c .met-by .ensures))
+    let j = c .before .before in
+    sym (moved-more _ _ _ _ _ (j .before .before .line-at .ensures) (more j) _ (c .before .step .ensures) _ (c .met-by .ensures))
 
 pub next-line-spec : {M : Type 1} → statement M
 next-line-spec =

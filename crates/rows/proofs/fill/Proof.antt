@@ -1,4 +1,4 @@
--- `rows::fill` meets its contract. The invariant: the lines left are still accepted, and their rows, put from here on, give what all of them would have given.
+-- `rows::fill` meets its contract. The invariant: the lines left are still accepted, so that the next is right, and their rows, put from here on, give what all of them would have given.
 -- Assumes nothing.
 use Prim.Native.Nat.{ℕ, _+_, _-_, _*_, _≤_, _<_}
 use mathlib.Core.Path.{_≡_, refl, sym, _∙_}
@@ -11,7 +11,7 @@ use borrow.Author.Tests.{ne-eqb}
 use Rattle.step.specs.declared.Verdict.the-variants.{Right}
 use Rattle.judge.specs.declared.Judged.the-variants.{Accepted}
 use Rattle.judge.specs.Message.{texts, judgeTexts, rowsFrom}
-use Rattle.judge.proofs.Laws.{left, AtLine, walk-on, walk-end, judged-wrong, judged-right, not-both}
+use Rattle.judge.proofs.Laws.{left, sure-next, AtLine, walk-on, walk-end, judged-wrong, judged-right, not-both}
 use Rattle.tables.specs.Table.{putRows}
 use Rattle.rows.proofs.Fills.{few, step-fits, fill-end, fill-turn, group-le}
 use Rattle.rows.proofs.fill.Statement.{statement}
@@ -49,7 +49,7 @@ loop-holds : tie.Need-loop-holds Inv-loop μ-loop
 loop-holds c = let p = c .before .before .before .pre in ((p .total, rw (c .fresh .ensures) (p .right)), refl, omega arith, omega arith, omega arith, omega arith, refl)
 
 next-line-requires : tie.Need-next-line-requires Inv-loop μ-loop
-next-line-requires c κs = tt
+next-line-requires c κs = sure-next _ _ _ _ _ (c .loop .inv .0 .1)
 
 enum-told : tie.Need-enum-told Inv-loop μ-loop
 enum-told c = search needs

@@ -1,4 +1,4 @@
--- `write::walk` meets its contract. The invariant: the lines left are still accepted, and what is written of them, put from here on, gives what all of them would have given.
+-- `write::walk` meets its contract. The invariant: the lines left are still accepted, so that the next is right, and what is written of them, put from here on, gives what all of them would have given.
 -- Assumes nothing.
 use Prim.Native.Nat.{_+_, _-_, _*_, _≤_}
 use mathlib.Core.Path.{_≡_, refl, sym, ap, _∙_}
@@ -15,7 +15,7 @@ use Rattle.step.specs.Step.{stepOf}
 use Rattle.step.specs.declared.Verdict.the-variants.{Right}
 use Rattle.judge.specs.Message.{texts, judgeTexts}
 use Rattle.judge.specs.declared.Judged.the-variants.{Accepted}
-use Rattle.judge.proofs.Laws.{left, AtLine, walk-on, walk-end, verdict, judged-wrong, judged-right, not-both}
+use Rattle.judge.proofs.Laws.{left, sure-next, AtLine, walk-on, walk-end, verdict, judged-wrong, judged-right, not-both}
 use Rattle.write.specs.Plain.{plain}
 use Rattle.write.specs.Inner.{lineOf, itemsFrom, writtenFrom}
 use Rattle.write.proofs.Inks.{Left, left-start, left-turn, left-same, left-done}
@@ -84,7 +84,7 @@ loop-holds c =
     rw z (record { line = 1; rows = 0; total = s .pre .0 .rows; right = r }, left-start _ _ _ _, omega arith, omega arith)
 
 next-line-requires : tie.Need-next-line-requires Inv-loop μ-loop
-next-line-requires c κs = tt
+next-line-requires c κs = sure-next _ _ _ _ _ (c .loop .inv .0 .right)
 
 enum-told : tie.Need-enum-told Inv-loop μ-loop
 enum-told c = search needs

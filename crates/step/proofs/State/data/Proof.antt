@@ -1,8 +1,8 @@
 -- `step::State::data` meets its contract: ORDER, then the epoch, then the rest.
 -- Assumes nothing.
-use mathlib.Core.Path.{_∙_, sym}
+use mathlib.Core.Path.{_≡_, _∙_, sym}
 use borrow.Author.Tests.{not-true, not-false}
-use Rattle.step.specs.Step.{dataOf}
+use Rattle.step.specs.Step.{dataAt, dataOf}
 use Rattle.step.proofs.Laws.{epoch-read}
 use borrow.Author.Needs.{needs}
 use Rattle.step.proofs.State.data.Statement.{statement}
@@ -22,13 +22,13 @@ array-copy-out-p : tie.Need-array-copy-out-p
 array-copy-out-p c = search needs
 
 sub-epoch-of : tie.Need-sub-epoch-of
-sub-epoch-of c = c .before .before .before .before .before .pre .inside 0 .order
+sub-epoch-of c = c .before .before .before .before .before .pre .0 .inside 0 .order
 
 part-epoch-of-start : tie.Need-part-epoch-of-start
-part-epoch-of-start c = c .before .before .before .before .before .pre .inside 0 .order
+part-epoch-of-start c = c .before .before .before .before .before .pre .0 .inside 0 .order
 
 part-epoch-of-end : tie.Need-part-epoch-of-end
-part-epoch-of-end c = c .before .before .before .before .before .pre .inside 0 .end
+part-epoch-of-end c = c .before .before .before .before .before .pre .0 .inside 0 .end
 
 sixty-stands-requires : tie.Need-sixty-stands-requires
 sixty-stands-requires c κs = search needs
@@ -45,8 +45,17 @@ wrong-requires-2 c κs = search needs
 enum-known-t : tie.Need-enum-known-t
 enum-known-t c = search needs
 
+-- the line fits here and its epoch is one
+way : (c : tie.After-known-told) → let a = c .before .before .before .before .before .before .before .before .before .before .before .args in
+    dataOf (a .self) (a .f) (a .text .now) ≡ dataAt (a .self) (a .f) (c .before .t .given .0 .0) (a .text .now)
+unfolding dataOf
+way c =
+    let e = c .before .before .before in
+    let i = e .before .before .before .before .before in
+    rw (sym (i .before .fits2 .ensures) ∙ not-false _ (i .if1 .left), dataOf) (rw (epoch-read _ _ _ _ (e .epoch-of .ensures) (e .before .sixty-stands .ensures) ∙ c .before .t .given .1))
+
 data-at-requires : tie.Need-data-at-requires
-data-at-requires c κs = search needs
+data-at-requires c κs = (search needs, rw (way c) at (c .before .before .before .before .before .before .before .before .before .before .before .pre .1))
 
 returns-2 : tie.Need-returns-2
 unfolding dataOf
@@ -57,12 +66,7 @@ returns-2 c =
     ∙ rw (sym (i .before .fits2 .ensures) ∙ not-false _ (i .if1 .left), dataOf) (rw (epoch-read _ _ _ _ (e .epoch-of .ensures) (e .before .sixty-stands .ensures) ∙ c .before .enum-told .given .1))
 
 returns-3 : tie.Need-returns-3
-unfolding dataOf
-returns-3 c =
-    let e = c .before .before .before .before in
-    let i = e .before .before .before .before .before in
-    c .data-at .ensures
-    ∙ rw (sym (i .before .fits2 .ensures) ∙ not-false _ (i .if1 .left), dataOf) (rw (epoch-read _ _ _ _ (e .epoch-of .ensures) (e .before .sixty-stands .ensures) ∙ c .before .before .t .given .1))
+returns-3 c = c .data-at .ensures ∙ sym (way (c .before))
 
 pub data-spec : {M : Type 1} → statement M
 data-spec =

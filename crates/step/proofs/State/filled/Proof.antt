@@ -22,7 +22,9 @@ enum-told : tie.Need-enum-told
 enum-told c = search needs
 
 uncommented-requires : tie.Need-uncommented-requires
-uncommented-requires c κs = search needs
+unfolding filledOf
+uncommented-requires c κs =
+    (search needs, rw (sym (c .before .before .comment-of .ensures) ∙ c .enum-told .given .1, filledOf) at (c .before .before .before .before .pre .1))
 
 returns : tie.Need-returns
 unfolding filledOf

@@ -20,7 +20,8 @@ enum-told : tie.Need-enum-told
 enum-told c = search needs
 
 fields-requires : tie.Need-fields-requires
-fields-requires c κs = search needs
+unfolding plainOf
+fields-requires c κs = rw (sym (c .before .before .assignment-of .ensures) ∙ c .enum-told .given .1, plainOf) at (c .before .before .before .before .pre)
 
 returns : tie.Need-returns
 unfolding plainOf

@@ -20,7 +20,8 @@ meta-code-requires : tie.Need-meta-code-requires
 meta-code-requires c κs = search needs
 
 plain-requires : tie.Need-plain-requires
-plain-requires c κs = search needs
+unfolding uncommentedOf
+plain-requires c κs = rw (rw (c .before .meta-code .ensures) at (eq-eqb _ _ (c .if1 .taken)), uncommentedOf) at (c .before .before .before .before .pre .1)
 
 returns : tie.Need-returns
 unfolding uncommentedOf
