@@ -1,5 +1,5 @@
-//! Times as ratios: the product's archive against the second program, against a bare scan for line ends and, where it is built with `--cfg before`,
-//! against the archive of an earlier landing, interleaved in one run; its placing against its judging, and its writing against its placing; and how judging,
+//! Times as ratios: the product's archive against the second program, against a bare scan for line ends, on an ephemeris against a reader in plain C
+//! (reader.c) and, where it is built with `--cfg before`, against the archive of an earlier landing, interleaved in one run; its placing against its judging, and its writing against its placing; and how judging,
 //! placing and reading grow up to the feed limit. `bench count WAY FEED TIMES` runs one of them alone, for a counter of instructions; `bench memory LENGTH` judges, places and reads one feed and
 //! says what memory that took.
 #[path = "../second/src/judge/mod.rs"]
@@ -50,6 +50,7 @@ extern "C" {
     fn odm_place(load: u32, count: u32, feed: *const u8, length: usize, message: usize, table: *mut u8, room: usize) -> Placed;
     fn odm_read(load: u32, count: u32, ticket_load: u32, ticket_row: u32, feed: *const u8, length: usize, table: *const u8, room: usize) -> Row;
     fn odm_write(feed: *const u8, length: usize, message: usize, buffer: *mut u8, room: usize) -> Written;
+    fn reader_lines(text: *const u8, length: usize) -> usize;
     #[cfg(before)]
     fn before_odm_judge(feed: *const u8, length: usize, message: usize) -> Judged;
     #[cfg(before)]
@@ -95,6 +96,16 @@ fn scan(feed: &[u8], messages: &[usize]) -> u64 {
         }
     }
     endings
+}
+
+/// What an engineer would write instead for an ephemeris: `memchr`, an epoch by hand, six `strtod` a line.
+fn reader(feed: &[u8], messages: &[usize]) -> u64 {
+    let mut lines = 0;
+    for _ in messages {
+        lines += unsafe { reader_lines(feed.as_ptr(), feed.len()) } as u64;
+    }
+    assert_ne!(lines, 0); // a refusal would be no measure of anything
+    lines
 }
 
 thread_local! {
@@ -168,6 +179,9 @@ const WAYS: &[(&str, Way)] = &[
     ("second", second),
     ("scan", scan),
 ];
+
+/// The way that only an ephemeris can be gone.
+const READER: &[(&str, Way)] = &[("reader", reader)];
 
 /// Placing and judging, and where it is built the same of the landing before.
 const PLACING: &[(&str, Way)] = &[
@@ -349,16 +363,18 @@ fn say_placing() {
 }
 
 fn times() {
-    let ways = only_ways(WAYS);
     println!("medians of interleaved rounds; a ratio above 1 means that the product is slower");
     for feed in feeds() {
+        let others = if feed.name == "64 KB ephemeris" { READER } else { &[] };
+        let ways = [WAYS, others].concat();
         lend(&feed.bytes, &feed.messages);
-        let times = measure(&feed.bytes, &feed.messages, &ways, 41, feed.calls);
+        let times = measure(&feed.bytes, &feed.messages, &only_ways(&ways), 41, feed.calls);
         println!("{}: {:.1} microseconds", feed.name, times[0] * 1e6);
-        for (way, time) in WAYS.iter().zip(&times).skip(1) {
+        for (way, time) in ways.iter().zip(&times).skip(1) {
             let against = match way.0 {
                 "before" => "the landing before",
                 "second" => "the second program",
+                "reader" => "a reader on memchr and strtod",
                 _ => "a bare scan for line ends",
             };
             println!("  against {}: {:.2}", against, times[0] / time);
@@ -375,7 +391,7 @@ fn times() {
 
 /// One way on one feed, so many times over: what a counter of instructions is run on.
 fn count(way: &str, feed: usize, calls: usize) {
-    let way = WAYS.iter().chain(PLACING).chain(SENDING).find(|known| known.0 == way).expect("no such way").1;
+    let way = WAYS.iter().chain(PLACING).chain(SENDING).chain(READER).find(|known| known.0 == way).expect("no such way").1;
     let feed = feeds().swap_remove(feed);
     lend(&feed.bytes, &feed.messages);
     for _ in 0..calls {

@@ -7,7 +7,8 @@ cd "$(dirname "$0")/.."
 host_tools
 mkdir -p build
 ways=(product second)
-flags=(--edition 2021 -C opt-level=3 -C "link-arg=$PWD/build/libodm-bench.a")
+"$CC" -O2 -Wall -Wextra -Werror -c bench/reader.c -o build/reader.o
+flags=(--edition 2021 -C opt-level=3 -C "link-arg=$PWD/build/libodm-bench.a" -C "link-arg=$PWD/build/reader.o")
 # Each function of an archive starts on a cache line: where a linker happens to put a loop is worth up to 17 hundredths of the time (bench/README.md).
 align() { "${CROSS}objcopy" --set-section-alignment '.text*=64' "$@"; }
 align target/staticlib/libodm.a build/libodm-bench.a
