@@ -14,14 +14,19 @@ align() { "${CROSS}objcopy" --set-section-alignment '.text*=64' "$@"; }
 align target/staticlib/libodm.a build/libodm-bench.a
 if [ -n "${BEFORE:-}" ]; then
   commit=$(git rev-parse --short "$BEFORE")
-  earlier=build/before-$commit
+  earlier=build/libodm-$commit.a
   echo "the landing before: $(git log -1 --format='%h, %s' "$commit")"
-  [ -d "$earlier" ] || git clone -q . "$earlier"
-  git -C "$earlier" checkout -q "$commit"
-  "$earlier/host/prove.sh" odm
+  if ! [ -e "$earlier" ]; then # built elsewhere: a file of Rattle under this folder that no crate here has fails the gate
+    clone=$(mktemp -d)
+    git clone -q . "$clone/odm"
+    git -C "$clone/odm" checkout -q "$commit"
+    "$clone/odm/host/prove.sh" odm
+    cp "$clone/odm/target/staticlib/libodm.a" "$earlier"
+    rm -rf "$clone"
+  fi
   # both archives have the same names, so those of the earlier one get a word in front
-  "${CROSS}nm" --defined-only -g "$earlier/target/staticlib/libodm.a" | awk '$2 == "T" { print $3, "before_" $3 }' >build/before.names
-  align --redefine-syms=build/before.names "$earlier/target/staticlib/libodm.a" build/libodm-before.a
+  "${CROSS}nm" --defined-only -g "$earlier" | awk '$2 == "T" { print $3, "before_" $3 }' >build/before.names
+  align --redefine-syms=build/before.names "$earlier" build/libodm-before.a
   flags+=(--cfg before -C "link-arg=$PWD/build/libodm-before.a")
   ways=(product before second)
 fi

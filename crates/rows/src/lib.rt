@@ -71,7 +71,7 @@ fn fill(feed: &[u8], from: usize, form: Form, table: &mut [u8])
     let mut n: u32 = 0;
     let mut state = State::fresh(form);
     loop {
-        let moved = judge::next_line(feed, at, line == 1, state, true);
+        let moved = judge::next_line(feed, at, line == 1, state, true); // sure: the message is right
         let met = moved.met;
         match met {
             Met::End => return,

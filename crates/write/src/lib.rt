@@ -203,7 +203,7 @@ fn walk(buffer: &mut [u8], feed: &[u8], from: usize, form: Form, writing: bool) 
     let mut first = true;
     let mut state = State::fresh(form);
     loop {
-        let moved = judge::next_line(feed, at, at == from, state, true);
+        let moved = judge::next_line(feed, at, at == from, state, true); // sure: the message is right
         let met = moved.met;
         match met {
             Met::End => return n,
