@@ -25,7 +25,7 @@ use Rattle.judge.specs.declared.Judged.{Judged}
 use Rattle.judge.specs.declared.Judged.the-variants.{Accepted, Refused}
 use Rattle.judge.proofs.Laws.{from-none, not-both}
 use Rattle.write.proofs.Names.{form-kept}
-use Rattle.explain.specs.Codes.{canBegin, those, noCodes, codesOf, codesFor}
+use Rattle.explain.specs.Codes.{canBegin, noCodes, codesOf, codesFor}
 use Rattle.explain.specs.Explain.{plainly, blamed, ended, explainFrom, explainLines, explainOf}
 use Rattle.explain.specs.declared.Explained.{Explained}
 use Rattle.parts.proofs.Laws.{offending-inside}

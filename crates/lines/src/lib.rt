@@ -7,7 +7,7 @@ ghost use mathlib.Core.Path.{_≡_};
 ghost use mathlib.Core.Bool.{not};
 ghost use Prim.Native.Nat.{_+_, _≤_, _<_};
 ghost use lib.ListN.{length, drop};
-ghost use Rattle.words.specs.Words.{every, blocksOf, firstAt};
+ghost use Rattle.words.specs.Words.{every, blocksOf};
 ghost use Rattle.lines.specs.Feed.{textLen, endWith, endLen, endsOf};
 ghost use Rattle.lines.specs.Text.{blanks, cutEnd, trimOf, isOdd, oddAt, moved, headingOf, heads, commentOf, wordEnds, sidesOf, assignmentOf, splitOf};
 

@@ -1,7 +1,7 @@
 -- `words::blocks_without` meets its contract: a walk along whole blocks without the byte.
 -- Assumes nothing.
-use Prim.Native.Nat.{_+_, _-_}
-use mathlib.Core.Path.{_≡_, sym, _∙_}
+use Prim.Native.Nat.{_-_}
+use mathlib.Core.Path.{sym, _∙_}
 use mathlib.Core.Bool.{not}
 use native.Mathlib.Nat.{zero-add}
 use native.Mathlib.Omega.{arith}

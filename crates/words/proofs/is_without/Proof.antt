@@ -1,6 +1,6 @@
 -- `words::is_without` meets its contract: a walk to the end that keeps whether every byte so far was another one.
 -- Assumes nothing.
-use Prim.Native.Nat.{ℕ, _+_, _-_}
+use Prim.Native.Nat.{ℕ, _-_}
 use mathlib.Core.Path.{_≡_, refl}
 use mathlib.Core.Bool.{Bool, not, _&&_}
 use mathlib.Core.Logic.{⊎-elim}
