@@ -1,5 +1,19 @@
-# Two commands: `make run` is the main job, `make test` the gate.
-.PHONY: test run console fuzz bench
+# `make` builds, `make install` puts it in place; `make run` is the main job, `make test` the gate.
+.PHONY: all install uninstall test run console fuzz bench
+
+# The archive, the shared library, the console and the thin program; what has to be proved first is said, and how long that takes.
+all:
+	@host/build.sh
+
+# Under PREFIX, with DESTDIR in front of every place that is written to.
+PREFIX ?= /usr/local
+DESTDIR ?=
+install: all
+	@PREFIX='$(PREFIX)' DESTDIR='$(DESTDIR)' host/install.sh install
+
+# Takes exactly that away again.
+uninstall:
+	@PREFIX='$(PREFIX)' DESTDIR='$(DESTDIR)' host/install.sh uninstall
 
 test:
 	@.ci/run

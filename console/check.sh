@@ -1,6 +1,6 @@
 #!/usr/bin/env bash
 # Runs every session in console/sessions/ from the root of the repository and compares what the console said with what is stored.
-# Usage: console/check.sh COMMAND.., the command that starts the console, seen from the root: console/check.sh qemu-x86_64 build/console
+# Usage: console/check.sh COMMAND.., the command that starts the console, seen from the root: console/check.sh qemu-x86_64 build/odm-console
 # A session is NAME.in (what is typed), NAME.args (one argument a line), NAME.out (what is said, and the exit status where it is not 0) and, where
 # the arguments have a speech command that writes build/sessions/NAME.said, NAME.said. What was said this time stays in build/sessions/.
 # Each session has a folder of its own to write to, build/sessions/NAME.files, with the files of NAME.before or empty: afterwards it holds the files of

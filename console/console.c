@@ -15,11 +15,12 @@
 
 #include "desk.h"
 #include "file.h"
+#include "odm_names.h"
 #include "tables.h"
 #include "voice.h"
 #include "words.h"
 
-enum { COMMAND_ROOM = 8192, ENDING_ROOM = 8, OPM_HEADING = 1, EPOCH = 9, OEM_HEADING = 36 };
+enum { COMMAND_ROOM = 8192, ENDING_ROOM = 8 };
 
 enum { TEXT_TOP = 254 }; /* so much is said of an offending text: a line that is not too long is said whole */
 
@@ -33,7 +34,7 @@ static bool leaving;
 /* What the library answers, in words */
 
 static void say_reason(uint32_t reason, uint32_t line) {
-    say("reason: %s", reason_words(reason));
+    say("reason: %s", odm_reason_words(reason));
     if (line != 0) say("line %" PRIu32, line);
 }
 
@@ -96,7 +97,7 @@ static void say_character(uint8_t byte) {
 
 /* The value as it stands in the message. */
 static void say_exact(struct heard heard) {
-    const char *unit = unit_words(heard.row.code);
+    const char *unit = odm_unit_words(heard.row.code);
     if (heard.row.length == 0) say("no value");
     else say("value %.*s%s%s", (int)heard.row.length, (const char *)heard.value, *unit == '\0' ? "" : " ", unit);
 }
@@ -114,7 +115,7 @@ static void say_about(int64_t units, const char *unit) {
 static void say_value(struct heard heard) {
     odm_rounded rounded = {ODM_VALUE, 0};
     if (rounding && is_number(heard.row.code)) rounded = desk_round(heard, decimals);
-    if (rounded.reason == ODM_OK) say_about(rounded.units, unit_words(heard.row.code));
+    if (rounded.reason == ODM_OK) say_about(rounded.units, odm_unit_words(heard.row.code));
     else say_exact(heard);
 }
 
@@ -584,8 +585,12 @@ static bool read_arguments(int count, char **arguments, const char **name, const
 
 int main(int count, char **arguments) {
     const char *name = NULL, *speech = NULL;
+    if (count == 2 && strcmp(arguments[1], "--version") == 0) {
+        say("odm-console %s", ODM_VERSION);
+        return voice_lost() ? 1 : 0;
+    }
     if (!read_arguments(count, arguments, &name, &speech)) {
-        fputs("usage: console FEEDFILE [--say CMD]\n", stderr);
+        fputs("usage: odm-console FEEDFILE [--say CMD], or odm-console --version\n", stderr);
         return 2;
     }
     if (speech != NULL) voice_use(speech);

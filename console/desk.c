@@ -4,7 +4,9 @@
 #include <string.h>
 
 #include "file.h"
+#include "odm_names.h"
 #include "progress.h"
+#include "words.h"
 
 static struct bytes next;     /* the feed that the next load is judged from: before that only what offends in it can be heard */
 static struct bytes loaded;   /* the feed that the last accepted load was judged from: the rows in the table are of these bytes and of no others */
@@ -76,7 +78,7 @@ static bool ends_line(uint8_t byte) {
 
 /* Whether a heading line is that of an OEM: before its keyword it has blanks alone. */
 static bool is_oem(const uint8_t *line, size_t length) {
-    static const char keyword[] = "CCSDS_OEM_VERS";
+    const char *keyword = odm_keyword_name(OEM_HEADING);
     size_t at = 0;
     while (at < length && line[at] == ' ') at++;
     return length - at >= strlen(keyword) && memcmp(line + at, keyword, strlen(keyword)) == 0;

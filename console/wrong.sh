@@ -1,7 +1,7 @@
 #!/usr/bin/env bash
 # Builds the console wrong, once for each edit of console/must-fail/, and sees that a session whose name begins with `preview` is then not as stored.
 # Usage: console/wrong.sh COMPILER COMMAND.., after console/check.sh COMMAND.., which makes the feeds. The command's last word is the console as it is, and
-# the words before it run the wrong ones too: console/wrong.sh x86_64-linux-gnu-gcc qemu-x86_64 build/console
+# the words before it run the wrong ones too: console/wrong.sh x86_64-linux-gnu-gcc qemu-x86_64 build/odm-console
 # An edit is NAME.edit, of four lines: `# ` and what is right, `file: ` and a file of console/, `old: ` and a line of it, which stands there once, and
 # `new: ` and the line that takes its place. A wrong console, what it said and what of that differs stay in build/wrong/NAME/.
 set -u

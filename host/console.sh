@@ -6,9 +6,9 @@ cd "$(dirname "$0")/.."
 . host/tools.sh
 host_tools
 mkdir -p build
-console/build.sh "$CC" console build/console
+console/build.sh "$CC" console build/odm-console
 if [ $# -gt 0 ]; then
-  exec $RUN build/console "$@"
+  exec $RUN build/odm-console "$@"
 fi
-console/check.sh $RUN build/console
-console/wrong.sh "$CC" $RUN build/console
+console/check.sh $RUN build/odm-console
+console/wrong.sh "$CC" $RUN build/odm-console

@@ -18,3 +18,22 @@ host_tools() { # install what is missing
     fi
   fi
 }
+
+need() { # need COMMAND PACKAGE: install it where it is missing
+  command -v "$1" >/dev/null && return
+  echo "installing $2"
+  apt-get update -qq >/dev/null 2>&1
+  DEBIAN_FRONTEND=noninteractive apt-get install -y -qq "$2" >/dev/null
+}
+
+odm_version() { # the version, which stands in the header and nowhere else
+  sed -n 's/^#define ODM_VERSION "\([0-9.]*\)"$/\1/p' include/odm.h
+}
+
+odm_shared() { echo "libodm.so.$(odm_version)"; } # the shared library's file
+
+odm_soname() { # the name that programs ask the loader for: it changes with the version's first number alone
+  local version
+  version=$(odm_version)
+  echo "libodm.so.${version%%.*}"
+}

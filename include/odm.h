@@ -1,12 +1,12 @@
-/* odm.h: orbit messages for a voice. Link libodm.a (x86-64 Linux).
+/* odm.h: orbit messages for a voice. Link with -lodm (x86-64 Linux). odm(3) is the manual, and odm_names.h has words for the numbers below.
  *
  * A feed is bytes: at most 16,777,215, holding CCSDS OPM and OEM messages in keyword notation. Messages are numbered from 1, each from its
  * heading line to the next heading line or the end of the feed. Any bytes, any message number get an answer.
  *
- * No function keeps state, allocates, prints or needs to be set up. A null pointer with length 0 is an empty feed, table, buffer or text. Every function
- * may be called from any thread.
+ * No function keeps state, allocates, prints or needs to be set up. A null pointer with length 0 is an empty feed, table, buffer or text. What is
+ * lent to be written to may not overlap what is lent to be read. Every function may be called from any thread.
  *
- * A host of the header before this one, where a feed had at most 65,535 bytes and a table two bytes an entry: lend odm_place and odm_read a table of
+ * A host of a version before 2.0.0, where a feed had at most 65,535 bytes and a table two bytes an entry: lend odm_place and odm_read a table of
  * four bytes an entry, 20 a row where it was 10, so twice as many bytes for the same rows. Take a recorded table of two bytes an entry through
  * odm_widen before odm_read is lent it. Wherever 65,535 was written down as the limit, for a feed's buffer or for what a file is cut at, put
  * ODM_FEED_LIMIT. ODM_FEED_LONG now means more bytes than that. No struct, no field and no other number changed.
@@ -20,6 +20,9 @@
 #ifdef __cplusplus
 extern "C" {
 #endif
+
+/* The version of this header and its library. As long as the first number stays, a program that was built for an earlier version runs on. */
+#define ODM_VERSION "2.2.0"
 
 /* A feed's limit, and how many bytes a table needs for each row. */
 enum { ODM_FEED_LIMIT = 16777215, ODM_ROW_BYTES = 20 };
@@ -36,7 +39,7 @@ enum {
     ODM_ORDER = 7,       /* not allowed next: repeated, too early or too late */
     ODM_VALUE = 8,       /* the value is not of its keyword's kind */
     ODM_UNIT = 9,        /* what follows the number is not its unit */
-    ODM_TIME_ORDER = 10, /* a time is before one that it must not precede, or out of its segment's span */
+    ODM_TIME_ORDER = 10, /* a time is before one that it must not precede, or is no later than the data line's before it, or out of its segment's span */
     ODM_SHORT = 11,      /* no line offends, but something is missing at the end */
     ODM_NO_ROOM = 12,    /* the message is right, and the table too short for its rows, or the buffer for its text; or two tables differ in length */
     ODM_SPENT = 13,      /* the load number is at its top */
@@ -90,7 +93,7 @@ odm_placed odm_place(uint32_t load, uint32_t count, const uint8_t *feed, size_t 
 typedef struct {
     uint32_t reason; /* ODM_OK, ODM_GONE, ODM_NO_ROW or ODM_ASTRAY; on a refusal every other field is 0 */
     uint32_t code;   /* the keyword's code, 1 to 45 */
-    uint32_t group;  /* OPM: the maneuver set, from 1, else 0; OEM: the segment, from 1, 0 in the header */
+    uint32_t group;  /* OPM: the maneuver set, from 1, else 0; OEM: the segment, from 1, 0 in the header; a comment's is that of the row before it */
     uint32_t line;   /* within the message */
     uint32_t start;  /* the value's place in the feed, from 0, unit excluded */
     uint32_t length; /* the value's length in bytes */
