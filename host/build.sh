@@ -25,7 +25,7 @@ if is_older "$shared" "$archive" include/odm.h host/build.sh; then
   build_shared
 fi
 echo "the shared library is $shared"
-if is_older "$console" "$archive" include console; then
+if is_older "$console" "$archive" include console/*.[ch] console/build.sh; then
   host_tools
   console/build.sh "$CC" console "$console"
 fi

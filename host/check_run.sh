@@ -13,7 +13,7 @@ run() { # run WORDS: make run says these words besides its rows
 
 run ""
 touch crates/odm_rows/src/main.rt
-run "proving 1 crate first, which takes about 24 seconds
+run "proving 1 crate first, which takes about 22 seconds
 "
 run ""
 

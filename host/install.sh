@@ -14,8 +14,9 @@ case $PREFIX in
     exit 1
     ;;
 esac
+PREFIX=$(realpath -ms -- "$PREFIX")
 [ -z "$DESTDIR" ] || DESTDIR=$(realpath -ms -- "$DESTDIR")
-root=$(realpath -ms -- "$DESTDIR$PREFIX")
+root=$DESTDIR$PREFIX
 note=build/folders-made
 
 files() { # what is installed: its mode, or where its link leads, the file that it is made from, and its place under the prefix
@@ -44,8 +45,8 @@ includedir=\${prefix}/include
 Name: odm
 Description: Orbit messages (CCSDS OPM and OEM) judged, and spoken row by row
 Version: $(odm_version)
-Libs: -L\${libdir} -lodm
-Cflags: -I\${includedir}
+Libs: -L"\${libdir}" -lodm
+Cflags: -I"\${includedir}"
 PC
 }
 
@@ -96,7 +97,8 @@ case ${1:-} in
     refresh
     ;;
   uninstall)
-    each take
+    removed=$(each take)
+    echo "${removed:-nothing of it is installed under $root}"
     drop_folders
     refresh
     ;;

@@ -41,8 +41,8 @@ if ! command -v rt >/dev/null 2>&1; then
   exit 1
 fi
 
-# on two cores a crate takes some 14 seconds, and a program to link some 10 more
-echo "proving $count crate$([ "$count" = 1 ] || echo s) first, which takes about $((10 + count * 14)) seconds" >&2
+# on two cores a crate takes some 12 seconds, and a program to link some 10 more
+echo "proving $count crate$([ "$count" = 1 ] || echo s) first, which takes about $((10 + count * 12)) seconds" >&2
 
 log=build/prove.log
 mkdir -p build
