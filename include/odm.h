@@ -41,7 +41,7 @@ enum {
     ODM_UNIT = 9,        /* what follows the number is not its unit */
     ODM_TIME_ORDER = 10, /* a time is before one that it must not precede, or is no later than the data line's before it, or out of its segment's span */
     ODM_SHORT = 11,      /* no line offends, but something is missing at the end */
-    ODM_NO_ROOM = 12,    /* the message is right, and the table too short for its rows, or the buffer for its text; or two tables differ in length */
+    ODM_NO_ROOM = 12,    /* the message is right, and the table or the buffer too short for it; or two tables differ in their number of entries */
     ODM_SPENT = 13,      /* the load number is at its top */
     ODM_GONE = 14,       /* the ticket's load number is not the desk's */
     ODM_NO_ROW = 15,     /* the row number is not below the desk's count */
@@ -89,7 +89,9 @@ typedef struct {
 /* Judges a message and, where it is right and the table has room, fills the table. table_len is in bytes. */
 odm_placed odm_place(uint32_t load, uint32_t count, const uint8_t *feed, size_t feed_len, size_t message, uint8_t *table, size_t table_len);
 
-/* A row, spoken to a ticket. Its value is the feed's bytes from start on, length of them. */
+/* A row, spoken to a ticket. Its value is the feed's bytes from start on, length of them. Lend the feed and the table as odm_place left them: of others the
+ * answer is what their bytes say, or ODM_ASTRAY.
+ */
 typedef struct {
     uint32_t reason; /* ODM_OK, ODM_GONE, ODM_NO_ROW or ODM_ASTRAY; on a refusal every other field is 0 */
     uint32_t code;   /* the keyword's code, 1 to 45 */

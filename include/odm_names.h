@@ -1,7 +1,7 @@
 /* odm_names.h: words for the numbers of odm.h, in C and in C++, so that no host has to write them down again.
  *
- * Each function answers a text that ends in a zero byte and stays as long as the program runs, never a null pointer. Names are as the messages and the rules
- * write them, for printing and comparing; words are for a voice. A number that has no name or no words here gets an empty text, but a reason never does.
+ * Names are as the messages and the rules write them, for printing and comparing; words are for a voice. Each is a text that ends in a zero byte and stays as
+ * long as the program runs, never a null pointer. A number that has no name or no words here gets an empty text; odm_reason_words has some for any number.
  */
 #ifndef ODM_NAMES_H
 #define ODM_NAMES_H
@@ -109,7 +109,7 @@ static inline const char *odm_reason_words(uint32_t reason) {
         /*  9 */ "what follows the number is not its unit",
         /* 10 */ "the time is out of order or outside its segment",
         /* 11 */ "the message ends before it is complete",
-        /* 12 */ "there is no room for the rows or the text of the message, or two tables differ in length",
+        /* 12 */ "there is no room for the rows or the text of the message, or two tables differ in their number of entries",
         /* 13 */ "the load numbers are used up, and the load before this one stays",
         /* 14 */ "this ticket is of an earlier load",
         /* 15 */ "the present load has no row of this number",
