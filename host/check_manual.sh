@@ -1,6 +1,6 @@
 #!/usr/bin/env bash
-# The manual pages: mandoc has nothing against them; odm.3 has each function, each field, each code and each reason as the headers have them, and what a console
-# says for each reason; odm-console.1 has every command.
+# The manual pages: mandoc has nothing against them; odm.3 has each function, field, code, unit and reason as the headers have them, and what a console says for
+# each reason; odm-console.1 has every command.
 set -eu
 cd "$(dirname "$0")/.."
 . host/tools.sh
@@ -35,6 +35,14 @@ codes() { sed -n 's|^        /\* *\([0-9]*\) \*/ "\([A-Z0-9_]*\)",$|\1 is \2|p' 
 
 codes_told() { sed -n 's/^\([0-9]* is [A-Z][A-Z0-9_]*\)\.$/\1/p' man/odm.3; }
 
+units() { # each unit as it is written, with its codes
+  paste -d ' ' <(sed -n 's/.*names\[\] = {"", \(.*\)};/\1/p' include/odm_names.h | tr -d '" ' | tr , '\n') <(
+    sed -n 's/^    if (\(.*\)) return [0-9];$/\1/p' include/odm_names.h | sed 's/code >= \([0-9]*\) && code <= \([0-9]*\)/\1 to \2/g; s/code == //g; s/[()]//g; s/ || / and /g'
+  )
+}
+
+units_told() { awk '/^It is$/ { getline; unit = $2; getline; sub(/^for (the codes )?/, ""); sub(/\.$/, ""); print unit, $0 }' man/odm.3; }
+
 names() { functions | sed 's/.*\(odm_[a-z_]*\)(.*/\1/'; }
 
 names_told() { sed -n 's/^\.Nm \(odm_[a-z_]*\).*/\1/p' man/odm.3; }
@@ -63,6 +71,7 @@ same functions
 same names
 same structs
 same codes
+same units
 same reasons
 same words
 same commands
