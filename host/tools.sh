@@ -22,8 +22,10 @@ host_tools() { # install what is missing
 need() { # need COMMAND PACKAGE: install it where it is missing
   command -v "$1" >/dev/null && return
   echo "installing $2"
-  apt-get update -qq >/dev/null 2>&1
-  DEBIAN_FRONTEND=noninteractive apt-get install -y -qq "$2" >/dev/null
+  apt-get update -qq >/dev/null 2>&1 || true # the package may be had without it
+  DEBIAN_FRONTEND=noninteractive apt-get install -y -qq "$2" >/dev/null && return
+  echo "$2 cannot be installed, and $1 is needed"
+  return 1
 }
 
 odm_version() { # the version, which stands in the header and nowhere else
