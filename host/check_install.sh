@@ -74,32 +74,34 @@ SAYS
 message 1 refused: the message ends before it is complete, line 12, 0 bytes at 256
 EPOCH could have stood there
 SAYS
+  says readme "$away" <<<"the feed cannot be read" # a folder
 }
 
 check_manual() {
   awk '/^\.Sh / { here = $2 == "EXAMPLES" } here && /^\.Bd/ { on = 1; next } /^\.Ed/ { on = 0 } on' man/odm.3 | sed 's/\\e/\\/g' >"$away/elsewhere/manual.c"
   build_both manual
   says manual console/sessions/whole.oem <<'SAYS'
-row 0 CCSDS_OEM_VERS: 1.0 
-row 1 CREATION_DATE: 2000-01-01T00:00:00 
-row 2 ORIGINATOR: A 
-row 3 META_START:  
-row 4 OBJECT_NAME: B 
-row 5 OBJECT_ID: C 
-row 6 CENTER_NAME: D 
-row 7 REF_FRAME: E 
-row 8 TIME_SYSTEM: UTC 
-row 9 START_TIME: 2000-001T00:00:00 
-row 10 STOP_TIME: 2000-001T00:00:00 
-row 11 META_STOP:  
-row 12 EPOCH: 2000-01-01T00:00:00 
-row 13 X: 1 kilometres
-row 14 Y: 2 kilometres
-row 15 Z: 3 kilometres
-row 16 X_DOT: 4 kilometres per second
-row 17 Y_DOT: 5 kilometres per second
-row 18 Z_DOT: 6 kilometres per second
+row 0 CCSDS_OEM_VERS 1.0
+row 1 CREATION_DATE 2000-01-01T00:00:00
+row 2 ORIGINATOR A
+row 3 META_START
+row 4 OBJECT_NAME B
+row 5 OBJECT_ID C
+row 6 CENTER_NAME D
+row 7 REF_FRAME E
+row 8 TIME_SYSTEM UTC
+row 9 START_TIME 2000-001T00:00:00
+row 10 STOP_TIME 2000-001T00:00:00
+row 11 META_STOP
+row 12 EPOCH 2000-01-01T00:00:00
+row 13 X 1 kilometres
+row 14 Y 2 kilometres
+row 15 Z 3 kilometres
+row 16 X_DOT 4 kilometres per second
+row 17 Y_DOT 5 kilometres per second
+row 18 Z_DOT 6 kilometres per second
 SAYS
+  says manual "$away" <<<"the feed cannot be read" # a folder
   says manual "$away/elsewhere/cut.opm" <<'SAYS'
 message 1 refused: the message ends before it is complete
 line 12
