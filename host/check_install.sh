@@ -58,7 +58,7 @@ says() { # says NAME FEED: both builds say of this feed the lines that come on s
   diff <(echo "$want") <(run_shared "$away/elsewhere/$1-shared" "$2")
 }
 
-check_readme() {
+check_readme_example() {
   awk '/^```c$/ { on = 1; next } /^```$/ { on = 0 } on' README.md >"$away/elsewhere/readme.c"
   build_both readme
   says readme examples/figure-3-1.opm <<'SAYS'
@@ -77,7 +77,7 @@ SAYS
   says readme "$away" <<<"the feed cannot be read" # a folder
 }
 
-check_manual() {
+check_manual_example() {
   awk '/^\.Sh / { here = $2 == "EXAMPLES" } here && /^\.Bd/ { on = 1; next } /^\.Ed/ { on = 0 } on' man/odm.3 | sed 's/\\e/\\/g' >"$away/elsewhere/manual.c"
   build_both manual
   says manual console/sessions/whole.oem <<'SAYS'
@@ -151,9 +151,9 @@ diff <(names_in "$away/prefix") <(installed | in_order)
 doing="the shared library's names and needs"
 check_shared
 doing="the example of README.md"
-check_readme
+check_readme_example
 doing="the example of odm.3"
-check_manual
+check_manual_example
 doing="the installed programs"
 check_programs
 doing="what installed files name"
