@@ -1,4 +1,6 @@
 // The desk: places a message in a lent table of bytes, and speaks a row only to a ticket of the present load.
+#![tactic(auto)]
+
 ghost use Rattle.std.specs.Prelude.{◌≡◌, ◌<◌, length};
 ghost use Rattle.desk.specs.Placing.{next_desk, desk_after, place_of, place_table, read_of, part_heard};
 

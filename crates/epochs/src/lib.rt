@@ -1,4 +1,6 @@
 // What an epoch's bytes say, in both forms, and which instant comes first. Every public function answers for any bytes.
+#![tactic(auto)]
+
 ghost use Rattle.std.specs.Prelude.{◌≡◌, ◌+◌, ◌<◌, ◌≤◌, drop};
 ghost use Rattle.epochs.specs.Epoch.{shaped, fits, digit_at, two_at, year_at, is_leap, month_days, days_before, month_day, year_day, last_second, is_clock, second_at, is_fraction, nano_at, timed_of, epoch_of, is_before};
 

@@ -1,4 +1,6 @@
 // Why a message is refused: where the offending bytes stand, and what could have stood there.
+#![tactic(auto)]
+
 ghost use Rattle.std.specs.Prelude.{◌≡◌, ◌≤◌, length, drop, true, false, ◌&&◌};
 ghost use Rattle.lines.specs.Feed.{lines_at};
 ghost use Rattle.grammar.specs.Order.{allows};

@@ -1,4 +1,6 @@
 // What a message type assigns, the kinds of values, their units, and what may follow what.
+#![tactic(auto)]
+
 ghost use Rattle.std.specs.Prelude.{◌≡◌};
 ghost use Rattle.grammar.specs.Keywords.{assigns, keyword_of, kind_of, is_unit};
 ghost use Rattle.grammar.specs.Order.{only, one_of, opm_next, oem_next, next_of, allows};

@@ -1,4 +1,6 @@
 // Bytes put into a lent buffer, or only counted, so that whoever writes can measure first.
+#![tactic(auto)]
+
 ghost use Rattle.std.specs.Prelude.{◌≡◌, ◌+◌, length};
 ghost use Rattle.ink.specs.Ink.{inked, Room};
 

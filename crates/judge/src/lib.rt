@@ -1,4 +1,6 @@
 // A feed's messages found and judged, line by line.
+#![tactic(auto)]
+
 ghost use Rattle.std.specs.Prelude.{◌≡◌, true, ◌≤◌, length, drop};
 ghost use Rattle.lines.specs.Feed.{lines, lines_at};
 ghost use Rattle.step.specs.Step.{no_row, fresh_state};

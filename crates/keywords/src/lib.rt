@@ -1,4 +1,6 @@
 // The keywords and their codes.
+#![tactic(auto)]
+
 ghost use Rattle.std.specs.Prelude.{◌≡◌, ◌<◌, length};
 ghost use Rattle.keywords.specs.Keywords.{code_in, keywords, sized, flat};
 

@@ -1,5 +1,7 @@
 // Runs the leaves on the lines of standard input: a letter names the leaf, a blank follows, and the rest is what it is asked about.
 // Each line is written back with its place and its answer, so that the stored output reads as a table.
+#![tactic(auto)]
+
 use epochs::Epoch;
 use grammar::{Form, Keyword, Kind, Next};
 use libc::{STDIN_FILENO, STDOUT_FILENO};

@@ -1,4 +1,6 @@
 // A feed's lines and what a line's text is made of. Every function answers for any bytes.
+#![tactic(auto)]
+
 ghost use Rattle.std.specs.Prelude.{◌≡◌, not, ◌+◌, ◌≤◌, ◌<◌, length, drop};
 ghost use Rattle.words.specs.Words.{every, blocks_of};
 ghost use Rattle.lines.specs.Feed.{text_len, end_with, end_len, ends_of};

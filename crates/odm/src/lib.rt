@@ -1,4 +1,6 @@
 // The C face: plain numbers and bytes. No function keeps state, allocates or prints.
+#![tactic(auto)]
+
 ghost use Rattle.std.specs.Prelude.{◌≡◌, length};
 ghost use Rattle.judge.specs.Message.{count_of, judge_of};
 ghost use Rattle.desk.specs.Placing.{place_of, place_table, read_of};

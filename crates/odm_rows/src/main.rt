@@ -1,4 +1,6 @@
 // Reads a feed from standard input and prints its messages' rows, in plain words, one fact a line.
+#![tactic(auto)]
+
 ghost use Rattle.std.specs.Prelude.{◌≡◌, length};
 
 use desk::{Desk, RowNumber, Ticket};

@@ -1,4 +1,6 @@
 // The bytes that offend in a line, by the reason.
+#![tactic(auto)]
+
 ghost use Rattle.std.specs.Prelude.{◌≡◌, drop, get_or};
 ghost use Rattle.lines.specs.Text.{no_span};
 ghost use Rattle.step.specs.Step.{Inside, SevenInside};

@@ -1,4 +1,6 @@
 // Why something is refused: one list for the judge, the desk, the table and the tools.
+#![tactic(auto)]
+
 ghost use Rattle.std.specs.Prelude.{◌≡◌};
 ghost use Rattle.reasons.specs.Reasons.{reason_no};
 

@@ -1,4 +1,6 @@
 // A number's text said as a whole number of units of a decimal place, rounded to nearest, halves away from zero.
+#![tactic(auto)]
+
 ghost use Rattle.std.specs.Prelude.{◌≡◌, true, ◌+◌, ◌*◌, ◌^◌, ◌<◌, ◌≤◌, length, drop};
 ghost use Rattle.values.specs.Number.{digits, unsigned, is_number, digits_from};
 ghost use Rattle.rounding.specs.Exact.{is_minus, read_on, behind, size_by, size_behind, size_of};

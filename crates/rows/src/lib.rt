@@ -1,4 +1,6 @@
 // A message's rows in a lent table of bytes: judged and put there.
+#![tactic(auto)]
+
 ghost use Rattle.std.specs.Prelude.{◌≡◌, ◌<◌, length, take};
 ghost use Rattle.judge.specs.Message.{feed_limit, judge_of, group_of, rows_at, rows_of};
 ghost use Rattle.tables.specs.Table.{put_rows};

@@ -1,4 +1,6 @@
 // A value in words for a voice, written into a lent buffer. Every public function answers for any bytes.
+#![tactic(auto)]
+
 ghost use Rattle.std.specs.Prelude.{◌≡◌, ◌≤◌, ◌<◌, ◌+◌, length};
 ghost use Rattle.ink.specs.Ink.{inked, Room};
 ghost use Rattle.spoken.specs.Saying.{said_by, mark_at, framed, words_by};

@@ -1,4 +1,6 @@
 // One line of a message judged from its text and the state alone; no place in the feed is part of the state.
+#![tactic(auto)]
+
 ghost use Rattle.std.specs.Prelude.{◌≡◌, drop};
 ghost use Rattle.step.specs.Step.{wrong, no_row, one_row, fresh_state, past, fits_here, sixty_stands, Inside, SevenInside, Sure, is_timely, are_numbers, past_data, data_at, data_of, fields_of, past_whole, whole_of, number_of, past_time, is_early, time_of, value_of, assign_of, meta_code, meta_of, plain_of, past_comment, uncommented_of, filled_of, step_of};
 

@@ -1,4 +1,6 @@
 // The table's bytes: entries and rows put there and read back, and recorded tables made wide and narrow again.
+#![tactic(auto)]
+
 ghost use Rattle.std.specs.Prelude.{◌≡◌, ◌+◌, ◌*◌, ◌/◌, ◌<◌, ◌≤◌, eqb, length};
 ghost use Rattle.std.proofs.lemmas.List.Edits.{sets};
 ghost use Rattle.tables.specs.Table.{host_width, recorded_width, entry_bytes, entry_at, row_at, put_row};

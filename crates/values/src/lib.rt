@@ -1,4 +1,6 @@
 // What a value's bytes say: numbers, integers, texts, the heading's version. Every public function answers for any bytes.
+#![tactic(auto)]
+
 ghost use Rattle.std.specs.Prelude.{◌≡◌, ◌+◌, ◌-◌, ◌<◌, ◌≤◌, ◌^◌, leb, length, drop};
 ghost use Rattle.values.specs.Number.{digits, sign_len, is_digits, is_exponent, ends_number, after_whole, is_number, digits_from, integer_top, is_integer, is_text, is_version};
 

@@ -1,4 +1,6 @@
 // Bytes held against a word or a byte.
+#![tactic(auto)]
+
 ghost use Rattle.std.specs.Prelude.{◌≡◌, not, ◌+◌, eqb, drop};
 ghost use Rattle.words.specs.Words.{begins, every, blocks_of, first_at, is_word};
 

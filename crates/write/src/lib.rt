@@ -1,4 +1,6 @@
 // A message written out in one plain form, into a lent buffer.
+#![tactic(auto)]
+
 ghost use Rattle.std.specs.Prelude.{◌≡◌, true, ◌++◌, ◌+◌, ◌≤◌, ◌<◌, length};
 ghost use Rattle.words.specs.Words.{bytes};
 ghost use Rattle.write.specs.Plain.{lead_of, plain_of};

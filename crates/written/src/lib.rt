@@ -1,1 +1,2 @@
 // Theorems only: what is stated in specs/ is proved in proofs/.
+#![tactic(auto)]
