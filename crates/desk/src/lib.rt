@@ -9,28 +9,28 @@ use reasons::Reason;
 use tables::Heard;
 
 // A load number and a row number are never taken for each other.
-#[derive(Drop)]
+#[derive(Clone, Copy)]
 pub struct LoadNumber(pub u32);
 
-#[derive(Drop)]
+#[derive(Clone, Copy)]
 pub struct RowNumber(pub u32);
 
 // A ticket: the load number at issue and the row number, from 0.
-#[derive(Drop)]
+#[derive(Clone, Copy)]
 pub struct Ticket {
     pub load: LoadNumber,
     pub row: RowNumber,
 }
 
 // A desk goes in by value and comes back.
-#[derive(Drop)]
+#[derive(Clone, Copy)]
 pub struct Desk {
     pub load: LoadNumber,
     pub count: u32,
 }
 
 // The next desk, on acceptance and refusal alike, with the answer.
-#[derive(Drop)]
+#[derive(Clone, Copy)]
 pub struct Placed {
     pub desk: Desk,
     pub answer: Judged,

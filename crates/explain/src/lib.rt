@@ -15,14 +15,14 @@ use reasons::{Reason, reason_number};
 use step::State;
 
 // At most four codes, in the array's first places; the others are 0.
-#[derive(Drop)]
+#[derive(Clone, Copy)]
 pub struct Codes {
     pub count: u32,
     pub codes: [u32; 4],
 }
 
 // A judgement; the place and length of the offending bytes, and the codes that could have stood there, all 0 where there are none.
-#[derive(Drop)]
+#[derive(Clone, Copy)]
 pub struct Explained {
     pub judged: Judged,
     pub start: u32,

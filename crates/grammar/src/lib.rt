@@ -8,21 +8,21 @@ ghost use Rattle.grammar.specs.Order.{only, one_of, opm_next, oem_next, next_of,
 use words::is_word;
 
 // The two types of message.
-#[derive(Drop)]
+#[derive(Clone, Copy)]
 pub enum Form {
     Opm,
     Oem,
 }
 
 // An assignment keyword's code, or no keyword of this type.
-#[derive(Drop)]
+#[derive(Clone, Copy)]
 pub enum Keyword {
     Code(u16),
     Unknown,
 }
 
 // What a code's value is: the heading's version, one of four, or nothing where nothing is assigned.
-#[derive(Drop)]
+#[derive(Clone, Copy)]
 pub enum Kind {
     Version,
     Text,
@@ -33,7 +33,7 @@ pub enum Kind {
 }
 
 // What may follow: the codes from `low` to `high`, the code `also` (0: none), and the message's end.
-#[derive(Drop)]
+#[derive(Clone, Copy)]
 pub struct Next {
     pub low: u16,
     pub high: u16,

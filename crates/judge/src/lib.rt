@@ -15,21 +15,21 @@ use step::{State, Step, Verdict};
 pub const FEED_LIMIT: usize = 16777215;
 
 // Accepted with its row count, or a reason and a line.
-#[derive(Drop)]
+#[derive(Clone, Copy)]
 pub enum Judged {
     Accepted(u32),
     Refused(Reason, u32),
 }
 
 // How many headings a feed has, or why they are not counted.
-#[derive(Drop)]
+#[derive(Clone, Copy)]
 pub enum Counted {
     Headings(u32),
     Barred(Reason),
 }
 
 // What a walk along a message meets: its end, a line that offends, or a line that is right.
-#[derive(Drop)]
+#[derive(Clone, Copy)]
 pub enum Met {
     End,
     Offence(Reason),
@@ -37,7 +37,7 @@ pub enum Met {
 }
 
 // One step of a walk along a message: what it met, the line judged, and the place of the next line.
-#[derive(Drop)]
+#[derive(Clone, Copy)]
 pub struct Moved {
     pub met: Met,
     pub step: Step,
@@ -45,21 +45,21 @@ pub struct Moved {
 }
 
 // Where a message starts and its type, or no such message.
-#[derive(Drop)]
+#[derive(Clone, Copy)]
 pub enum Found {
     Place(usize, Form),
     Missing,
 }
 
 // A message judged: where one that is right starts, its type and its row count; else a reason and a line.
-#[derive(Drop)]
+#[derive(Clone, Copy)]
 pub enum Sighted {
     Right(usize, Form, u32),
     Wrong(Reason, u32),
 }
 
 // A row of the table.
-#[derive(Drop)]
+#[derive(Clone, Copy)]
 pub struct Row {
     pub code: u32,
     pub group: u32,

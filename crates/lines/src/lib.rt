@@ -9,20 +9,20 @@ ghost use Rattle.lines.specs.Text.{blanks, cut_end, trim_of, is_odd, odd_at, mov
 use words::{BLOCK, begins_at, byte_at, byte_from};
 
 // A part of a text: from one place up to another.
-#[derive(Drop)]
+#[derive(Clone, Copy)]
 pub struct Span {
     pub from: usize,
     pub to: usize,
 }
 
 // Where a line's text ends, and where the next line starts.
-#[derive(Drop)]
+#[derive(Clone, Copy)]
 pub struct Ends {
     pub end: usize,
     pub next: usize,
 }
 
-#[derive(Drop)]
+#[derive(Clone, Copy)]
 pub enum Heading {
     Opm,
     Oem,
@@ -30,28 +30,28 @@ pub enum Heading {
 }
 
 // A comment with its value's place, or no comment.
-#[derive(Drop)]
+#[derive(Clone, Copy)]
 pub enum Comment {
     Value(Span),
     Other,
 }
 
 // An assignment's keyword and value field, both trimmed.
-#[derive(Drop)]
+#[derive(Clone, Copy)]
 pub struct Sides {
     pub keyword: Span,
     pub value: Span,
 }
 
 // An assignment with its two sides, or a text with no `=`.
-#[derive(Drop)]
+#[derive(Clone, Copy)]
 pub enum Assignment {
     Parted(Sides),
     Other,
 }
 
 // The first seven fields, and how many there are: 8 stands for more than seven.
-#[derive(Drop)]
+#[derive(Clone, Copy)]
 pub struct Fields {
     pub count: usize,
     pub spans: [Span; 7],

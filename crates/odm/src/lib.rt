@@ -21,14 +21,14 @@ use tables::{Heard, Resized};
 use write::Written;
 
 #[repr(C)]
-#[derive(Drop)]
+#[derive(Clone, Copy)]
 pub struct OdmCounted {
     pub reason: u32,
     pub count: u32,
 }
 
 #[repr(C)]
-#[derive(Drop)]
+#[derive(Clone, Copy)]
 pub struct OdmJudged {
     pub reason: u32,
     pub line: u32,
@@ -36,7 +36,7 @@ pub struct OdmJudged {
 }
 
 #[repr(C)]
-#[derive(Drop)]
+#[derive(Clone, Copy)]
 pub struct OdmPlaced {
     pub load: u32,
     pub count: u32,
@@ -45,7 +45,7 @@ pub struct OdmPlaced {
 }
 
 #[repr(C)]
-#[derive(Drop)]
+#[derive(Clone, Copy)]
 pub struct OdmRow {
     pub reason: u32,
     pub code: u32,
@@ -56,7 +56,7 @@ pub struct OdmRow {
 }
 
 #[repr(C)]
-#[derive(Drop)]
+#[derive(Clone, Copy)]
 pub struct OdmWritten {
     pub reason: u32,
     pub line: u32,
@@ -64,21 +64,21 @@ pub struct OdmWritten {
 }
 
 #[repr(C)]
-#[derive(Drop)]
+#[derive(Clone, Copy)]
 pub struct OdmRounded {
     pub reason: u32,
     pub units: i64,
 }
 
 #[repr(C)]
-#[derive(Drop)]
+#[derive(Clone, Copy)]
 pub struct OdmSpoken {
     pub reason: u32,
     pub length: u32,
 }
 
 #[repr(C)]
-#[derive(Drop)]
+#[derive(Clone, Copy)]
 pub struct OdmExplained {
     pub reason: u32,
     pub rows: u32,

@@ -5,7 +5,7 @@ ghost use Rattle.std.specs.Prelude.{◌≡◌};
 ghost use Rattle.reasons.specs.Reasons.{reason_no};
 
 // In the order of the documents' numbers: to Astray document 01's, from TooBig on document 02's.
-#[derive(Drop)]
+#[derive(Clone, Copy)]
 pub enum Reason {
     FeedLong,
     NoMessage,

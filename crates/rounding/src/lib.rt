@@ -12,14 +12,14 @@ use values::{digit, digits_of, is_number, sign_of};
 // The largest size that is said.
 const LIMIT: u64 = 1_000_000_000_000_000;
 
-#[derive(Drop)]
+#[derive(Clone, Copy)]
 pub enum Said {
     Units(i64),
     Refused(Reason),
 }
 
 // A size: its digits as a whole number, the power of ten that multiplies it, and the one that divides it.
-#[derive(Drop)]
+#[derive(Clone, Copy)]
 struct Size {
     digits: u64,
     up: u64,

@@ -13,7 +13,7 @@ use ink::put;
 use reasons::Reason;
 
 // How a value's bytes are said: as they stand, as a number's, or as an epoch's in one of its two forms.
-#[derive(Drop)]
+#[derive(Clone, Copy)]
 pub enum Manner {
     Plain,
     Numeral,
@@ -22,14 +22,14 @@ pub enum Manner {
 }
 
 // The manner of a value that is right in its kind; any other is not said.
-#[derive(Drop)]
+#[derive(Clone, Copy)]
 pub enum Way {
     By(Manner),
     Unsaid,
 }
 
 // What a byte is said as: itself, or the words of a mark.
-#[derive(Drop)]
+#[derive(Clone, Copy)]
 pub enum Mark {
     Itself,
     Plus,
@@ -43,7 +43,7 @@ pub enum Mark {
 }
 
 // The words' length, or why there are none.
-#[derive(Drop)]
+#[derive(Clone, Copy)]
 pub enum Spoken {
     Words(u32),
     Refused(Reason),

@@ -10,7 +10,7 @@ use lines::{Assignment, Comment, Fields, Sides, Span};
 use reasons::Reason;
 use words::{byte_at, is_word};
 
-#[derive(Drop)]
+#[derive(Clone, Copy)]
 pub enum Verdict {
     Right,
     Wrong(Reason),
@@ -18,7 +18,7 @@ pub enum Verdict {
 
 // What judging a line needs of the lines before it: the code of the last one that is no comment and not blank (0: none; 45: a comment
 // since the data lines), whether the present TIME_SYSTEM is exactly UTC, START_TIME, the latest time given, and the last data line's epoch.
-#[derive(Drop)]
+#[derive(Clone, Copy)]
 pub struct State {
     pub form: Form,
     pub last: u16,
@@ -29,7 +29,7 @@ pub struct State {
 }
 
 // A line judged: the verdict, the next state, and the spans of its rows' values within its text, with the first row's code.
-#[derive(Drop)]
+#[derive(Clone, Copy)]
 pub struct Step {
     pub verdict: Verdict,
     pub state: State,

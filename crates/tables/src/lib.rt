@@ -11,14 +11,14 @@ use judge::Row;
 use reasons::Reason;
 
 // A row of the table, or why it is not spoken.
-#[derive(Drop)]
+#[derive(Clone, Copy)]
 pub enum Heard {
     Spoken(Row),
     Silent(Reason),
 }
 
 // A table made at the other width, or why not.
-#[derive(Drop)]
+#[derive(Clone, Copy)]
 pub enum Resized {
     Done,
     Refused(Reason),

@@ -16,7 +16,7 @@ use reasons::Reason;
 use step::{State, Step};
 
 // A message written whole, with its length, or why it is not.
-#[derive(Drop)]
+#[derive(Clone, Copy)]
 pub enum Written {
     Whole(u32),
     Refused(Reason, u32),
