@@ -1,6 +1,6 @@
 /* The console: an analyst loads a message of a feed, has its rows spoken and sends it on. It judges nothing: every answer about a message, a row or a
- * ticket is the library's, and every value is one that the present load judged (desk.h), in the library's words. What `why` says as offending no load has
- * accepted: it is said as that, never as a value. Here are the commands and what is said.
+ * ticket is the library's, and every value is one that the present load judged (desk.h). What `why` says as offending no load has accepted: it is said as
+ * that, never as a value. Here are the commands and what is said.
  */
 #define _POSIX_C_SOURCE 200809L
 #include <errno.h>
@@ -20,7 +20,7 @@
 #include "voice.h"
 #include "words.h"
 
-enum { COMMAND_ROOM = 8192, ENDING_ROOM = 8, NUMBER_ROOM = 40 };
+enum { COMMAND_ROOM = 8192, ENDING_ROOM = 8 };
 
 enum { TEXT_TOP = 254 }; /* so much is said of an offending text: a line that is not too long is said whole */
 
@@ -29,7 +29,6 @@ static struct ticket ticket; /* the one that `ticket` keeps and `speak` uses */
 static struct ticket spoken; /* of the row that was spoken last */
 static bool rounding;        /* whether numbers are said rounded, and to how many decimals */
 static uint32_t decimals;
-static bool wording = true;  /* whether values are said in words */
 static bool leaving;
 
 /* What the library answers, in words */
@@ -96,51 +95,27 @@ static void say_character(uint8_t byte) {
     else say("%s", sign_word(byte));
 }
 
-struct text {
-    const uint8_t *at;
-    size_t length;
-};
-
-/* A value of this code as it is to be said, until the next one: the library's words, or its bytes where words are off or the library has none, so that no row
- * is lost.
- */
-static struct text in_words(uint32_t code, struct text value) {
-    static uint8_t words[ODM_WORDS_BYTES];
-    odm_spoken answer = {ODM_VALUE, 0};
-    if (wording) answer = odm_in_words(code, value.at, value.length, words, sizeof words);
-    return answer.reason == ODM_OK ? (struct text){words, answer.length} : value;
-}
-
-/* A value and its unit, after the words that lead to it. */
-static void say_with_unit(const char *lead, uint32_t code, struct text value) {
-    const char *unit = odm_unit_words(code);
-    struct text said = in_words(code, value);
-    say("%s %.*s%s%s", lead, (int)said.length, (const char *)said.at, *unit == '\0' ? "" : " ", unit);
-}
-
-/* The value itself, not rounded. */
+/* The value as it stands in the message. */
 static void say_exact(struct heard heard) {
+    const char *unit = odm_unit_words(heard.row.code);
     if (heard.row.length == 0) say("no value");
-    else say_with_unit("value", heard.row.code, (struct text){heard.value, heard.row.length});
+    else say("value %.*s%s%s", (int)heard.row.length, (const char *)heard.value, *unit == '\0' ? "" : " ", unit);
 }
 
 /* So many units of the last decimal, as a decimal number. */
-static void say_about(uint32_t code, int64_t units) {
+static void say_about(int64_t units, const char *unit) {
     uint64_t size = units < 0 ? 0 - (uint64_t)units : (uint64_t)units, ones = 1;
-    const char *sign = units < 0 ? "-" : "";
-    char number[NUMBER_ROOM];
-    int length;
+    const char *sign = units < 0 ? "-" : "", *gap = *unit == '\0' ? "" : " ";
     for (uint32_t at = 0; at < decimals; at++) ones *= 10;
-    if (decimals == 0) length = snprintf(number, sizeof number, "%s%" PRIu64, sign, size);
-    else length = snprintf(number, sizeof number, "%s%" PRIu64 ".%0*" PRIu64, sign, size / ones, (int)decimals, size % ones);
-    say_with_unit("value about", code, (struct text){(const uint8_t *)number, (size_t)length});
+    if (decimals == 0) say("value about %s%" PRIu64 "%s%s", sign, size, gap, unit);
+    else say("value about %s%" PRIu64 ".%0*" PRIu64 "%s%s", sign, size / ones, (int)decimals, size % ones, gap, unit);
 }
 
-/* A number is said rounded, if that is wanted; one too big for that, and all that is no number, exactly. */
+/* A number is said rounded, if that is wanted; one too big for that, and all that is no number, as it stands. */
 static void say_value(struct heard heard) {
     odm_rounded rounded = {ODM_VALUE, 0};
     if (rounding && is_number(heard.row.code)) rounded = desk_round(heard, decimals);
-    if (rounded.reason == ODM_OK) say_about(heard.row.code, rounded.units);
+    if (rounded.reason == ODM_OK) say_about(rounded.units, odm_unit_words(heard.row.code));
     else say_exact(heard);
 }
 
@@ -229,13 +204,12 @@ static void say_could_stand(struct blame blame) {
     }
 }
 
-/* What comes after the reason and the line. A value that is right in its kind, as a time out of order is, is said in words. */
+/* What comes after the reason and the line. */
 static void say_blame(struct blame blame) {
     uint32_t reason = blame.answer.reason, length = blame.answer.length;
-    struct text said = in_words(blame.code, (struct text){blame.text, length});
     if (reason == ODM_LONG) say("%" PRIu32 " byte%s too many", length, length == 1 ? "" : "s");
     if (reason == ODM_SHORT) say("the message ends there");
-    else say_offending(said.at, said.length);
+    else say_offending(blame.text, length);
     if (reason == ODM_BYTE && length > 0) say("the byte is %d, and plain text is from 32 to 126", *blame.text);
     say_could_stand(blame);
 }
@@ -350,7 +324,7 @@ static void run_decimals(struct argument argument) {
     uint32_t count = (uint32_t)argument.number;
     if (strcmp(argument.text, "off") == 0) {
         rounding = false;
-        say("numbers are not rounded");
+        say("numbers are said as they stand");
     } else if (desk_decimals(count) != ODM_OK) {
         say("%" PRIu32 " decimals refused", count);
         say_reason(desk_decimals(count), 0);
@@ -359,12 +333,6 @@ static void run_decimals(struct argument argument) {
         decimals = count;
         say("numbers are said rounded to %" PRIu32 " decimal%s", count, count == 1 ? "" : "s");
     }
-}
-
-/* Off is for a braille display, which wants the bytes themselves. */
-static void run_words(struct argument argument) {
-    wording = strcmp(argument.text, "on") == 0;
-    say(wording ? "values are said in words" : "values are not said in words");
 }
 
 /* A ticket is kept if the library would answer it now; else the one kept before, if any, stays. */
@@ -468,7 +436,7 @@ static void run_quit(struct argument argument) {
     leaving = true;
 }
 
-enum takes { NOTHING, A_NUMBER, A_NUMBER_OR_OFF, ON_OR_OFF, A_FILE, A_KEYWORD };
+enum takes { NOTHING, A_NUMBER, A_NUMBER_OR_OFF, A_FILE, A_KEYWORD };
 
 static const struct command {
     const char *name;
@@ -487,9 +455,8 @@ static const struct command {
     {"back", NOTHING, 0, run_back, "back: speak the row before the one spoken last"},
     {"find", A_KEYWORD, 0, run_find, "find KEYWORD: speak the next row with this keyword after the one spoken last"},
     {"spell", NOTHING, 0, run_spell, "spell: spell the value spoken last as it stands, one character a line"},
-    {"exact", NOTHING, 0, run_exact, "exact: say the value spoken last, not rounded"},
-    {"decimals", A_NUMBER_OR_OFF, UINT32_MAX, run_decimals, "decimals N: say numbers rounded to N decimals, from 0 to 6, or with off in place of N not rounded"},
-    {"words", ON_OR_OFF, 0, run_words, "words on: say values in words, or with off in place of on as the message has them, for braille"},
+    {"exact", NOTHING, 0, run_exact, "exact: say the value spoken last as it stands, not rounded"},
+    {"decimals", A_NUMBER_OR_OFF, UINT32_MAX, run_decimals, "decimals N: say numbers rounded to N decimals, from 0 to 6, or with off in place of N as they stand"},
     {"ticket", A_NUMBER, UINT32_MAX, run_ticket, "ticket N: keep a ticket for row N of the present load"},
     {"speak", NOTHING, 0, run_speak, "speak: speak the row of the kept ticket"},
     {"feed", A_FILE, 0, run_feed, "feed FILE: bring in a feed for the next load, and the present load stays"},
@@ -536,12 +503,10 @@ static void run_command(const struct command *command, const char *text) {
     if (command->takes == NOTHING && given) say("%s stands alone, with nothing after it", command->name);
     else if (command->takes == A_NUMBER && !given) say("%s needs a number", command->name);
     else if (command->takes == A_NUMBER_OR_OFF && !given) say("%s needs a number or off", command->name);
-    else if (command->takes == ON_OR_OFF && !given) say("%s needs on or off", command->name);
     else if (command->takes == A_FILE && !given) say("%s needs a file name", command->name);
     else if (command->takes == A_KEYWORD && !given) say("%s needs a keyword", command->name);
     else if (command->takes == A_NUMBER) run_with_number(command, argument);
     else if (command->takes == A_NUMBER_OR_OFF && strcmp(text, "off") != 0) run_with_number(command, argument);
-    else if (command->takes == ON_OR_OFF && strcmp(text, "on") != 0 && strcmp(text, "off") != 0) say("neither on nor off: %s", text);
     else command->run(argument);
 }
 

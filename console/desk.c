@@ -98,34 +98,13 @@ static bool in_oem(size_t place) {
     return false;
 }
 
-/* How many fields of a data line stand before one that begins at this place of it. */
-static uint32_t fields_before(const uint8_t *line, size_t place) {
-    uint32_t fields = 0;
-    for (size_t at = 0; at + 1 < place; at++) {
-        if (line[at] != ' ' && line[at + 1] == ' ') fields++;
-    }
-    return fields;
-}
-
-/* The code of the value at this place of the feed: that of the keyword before its line's first `=`, or where there is none that of the data line's field. */
-static uint32_t code_at(size_t place) {
-    size_t start = place;
-    while (start > 0 && !ends_line(next.at[start - 1])) start--;
-    const uint8_t *line = next.at + start, *equals = memchr(line, '=', place - start);
-    if (equals == NULL) return EPOCH + fields_before(line, place - start); /* a data line has the codes 9 to 15 */
-    while (line < equals && *line == ' ') line++;
-    while (equals > line && equals[-1] == ' ') equals--;
-    return name_code(line, (size_t)(equals - line));
-}
-
 struct blame desk_explain(size_t message) {
     progress_begin("judging");
     odm_explained answer = odm_explain(next.at, next.length, message);
     bool inside = answer.line > 0 && answer.start <= next.length && answer.length <= next.length - answer.start;
     bool oem = inside && answer.count > 0 && in_oem(answer.start);
-    bool value = inside && (answer.reason == ODM_VALUE || answer.reason == ODM_TIME_ORDER);
     progress_end();
-    return (struct blame){answer, inside ? next.at + answer.start : NULL, value ? code_at(answer.start) : 0, oem};
+    return (struct blame){answer, inside ? next.at + answer.start : NULL, oem};
 }
 
 uint32_t desk_load(void) {

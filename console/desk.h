@@ -27,7 +27,6 @@ struct heard {
 struct blame {
     odm_explained answer;
     const uint8_t *text; /* the offending bytes, answer.length of them, until another feed is brought in; NULL where the feed has no such place */
-    uint32_t code;       /* whose value they are, by the line in which they stand; 0 where they are no value */
     bool in_oem;         /* whether the answer's codes are of an OEM, where 9 is a data line */
 };
 

@@ -5,7 +5,7 @@
 #include <stdarg.h>
 #include <stdio.h>
 
-enum { LINE_ROOM = 9000 }; /* a sentence and the longest name that can be typed; of a value or an offending text at most 259 bytes are said */
+enum { LINE_ROOM = 9000 }; /* a sentence and the longest name that can be typed; of a value or an offending text at most 254 bytes are said */
 
 static char line[LINE_ROOM];
 static const char *speech = NULL; /* the speech command, as long as it works */

@@ -1,7 +1,7 @@
 #define _POSIX_C_SOURCE 200809L
 #include "words.h"
 
-#include <string.h>
+#include <stddef.h>
 #include <strings.h>
 
 #include "odm_names.h"
@@ -62,14 +62,6 @@ const char *keyword_word(uint32_t code) {
 uint32_t keyword_code(const char *text) {
     for (uint32_t code = 1; code <= ODM_CODE_TOP; code++) {
         if (strcasecmp(text, odm_keyword_name(code)) == 0) return code;
-    }
-    return 0;
-}
-
-uint32_t name_code(const uint8_t *name, size_t length) {
-    for (uint32_t code = 1; code <= ODM_CODE_TOP; code++) {
-        const char *keyword = odm_keyword_name(code);
-        if (strlen(keyword) == length && memcmp(keyword, name, length) == 0) return code;
     }
     return 0;
 }

@@ -3,7 +3,6 @@
 #define WORDS_H
 
 #include <stdbool.h>
-#include <stddef.h>
 #include <stdint.h>
 
 enum { OPM_HEADING = 1, EPOCH = 9, OEM_HEADING = 36 }; /* codes */
@@ -13,9 +12,6 @@ const char *keyword_word(uint32_t code);
 
 /* The code of a keyword, in capital or small letters; 0 where there is no such keyword. */
 uint32_t keyword_code(const char *text);
-
-/* The same for a keyword exactly as a message has it. */
-uint32_t name_code(const uint8_t *name, size_t length);
 
 /* Whether the values of a code are numbers with decimals, by document 01: no epoch, no text, no version and no degree of interpolation is one. */
 bool is_number(uint32_t code);

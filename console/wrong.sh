@@ -1,10 +1,9 @@
 #!/usr/bin/env bash
-# Builds the console wrong, once for each edit of console/must-fail/, and sees that a session of those that the edit names is then not as stored.
+# Builds the console wrong, once for each edit of console/must-fail/, and sees that a session whose name begins with `preview` is then not as stored.
 # Usage: console/wrong.sh COMPILER COMMAND.., after console/check.sh COMMAND.., which makes the feeds. The command's last word is the console as it is, and
 # the words before it run the wrong ones too: console/wrong.sh x86_64-linux-gnu-gcc qemu-x86_64 build/odm-console
-# An edit is NAME.edit, of five lines: `# ` and what is right, `file: ` and a file of console/, `old: ` and a line of it, which stands there once, `new: ` and
-# the line that takes its place, and `sessions: ` and a pattern for the names of sessions. A wrong console, what it said and what of that differs stay in
-# build/wrong/NAME/.
+# An edit is NAME.edit, of four lines: `# ` and what is right, `file: ` and a file of console/, `old: ` and a line of it, which stands there once, and
+# `new: ` and the line that takes its place. A wrong console, what it said and what of that differs stay in build/wrong/NAME/.
 set -u
 cd "$(dirname "$0")/.." || exit 1
 if [ $# -lt 2 ]; then
@@ -24,15 +23,11 @@ copy() { # copy FOLDER: the console's files, to be edited there
   cp console/*.c console/*.h "$1"
 }
 
-is_edit() { # is_edit LINE..: whether these are the five lines of an edit
-  [ $# -eq 5 ] && [[ $1 == "# "* && $2 == "file: "* && $3 == "old: "* && $4 == "new: "* && $5 == "sessions: "* ]]
-}
-
 change() { # change FOLDER EDIT: puts the edit's new line in place of its old one
   local folder=$1 lines=() file old
   mapfile -t lines <"$2"
-  if ! is_edit "${lines[@]}"; then
-    echo "$2 has not the five lines of an edit"
+  if [ "${#lines[@]}" -ne 4 ] || [[ ${lines[0]} != "# "* || ${lines[1]} != "file: "* || ${lines[2]} != "old: "* || ${lines[3]} != "new: "* ]]; then
+    echo "$2 has not the four lines of an edit"
     return 1
   fi
   file=$folder/${lines[1]#file: }
@@ -45,17 +40,11 @@ change() { # change FOLDER EDIT: puts the edit's new line in place of its old on
   mv "$folder/changed" "$file"
 }
 
-sessions_of() { # sessions_of EDIT..: the sessions that they name, each once
-  local pattern
-  sed -n 's/^sessions: //p' "$@" | while read -r pattern; do
-    (cd "$stored" && compgen -G "$pattern.in")
-  done | sed 's/\.in$//' | LC_ALL=C sort -u
-}
-
-unlike() { # unlike FOLDER SESSIONS COMMAND..: names those of the sessions that are not as stored
-  local fresh=$1 sessions=$2 name names=
-  shift 2
-  for name in $sessions; do
+unlike() { # unlike FOLDER COMMAND..: names the sessions that are not as stored
+  local fresh=$1 typed name names=
+  shift
+  for typed in "$stored"/preview*.in; do
+    name=$(basename "$typed" .in)
     run "$name" "$@"
     same "$name" >"$fresh/$name.unlike" || names="${names:+$names and }session $name"
   done
@@ -70,7 +59,7 @@ try() { # try NAME: whether the wrong build is made and found
     echo "$1 does not build"
     return 1
   fi
-  sessions=$(unlike "$folder" "$(sessions_of "console/must-fail/$1.edit")" "${emulator[@]}" "$folder/console")
+  sessions=$(unlike "$folder" "${emulator[@]}" "$folder/console")
   if [ -z "$sessions" ]; then
     echo "$1 is not found"
     return 1
@@ -80,7 +69,7 @@ try() { # try NAME: whether the wrong build is made and found
 
 rm -rf build/wrong
 mkdir -p build/wrong/right/none
-sessions=$(unlike build/wrong/right "$(sessions_of console/must-fail/*.edit)" "$@")
+sessions=$(unlike build/wrong/right "$@")
 if [ -n "$sessions" ]; then # then finding a wrong build would tell nothing
   echo "FAILED: the console as it is goes not as stored in $sessions"
   exit 1

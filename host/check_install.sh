@@ -62,7 +62,7 @@ check_readme_example() {
   awk '/^```c$/ { on = 1; next } /^```$/ { on = 0 } on' README.md >"$away/elsewhere/readme.c"
   build_both readme
   says readme examples/figure-3-1.opm <<'SAYS'
-row 1: CREATION_DATE, value year 2001 month 11 day 06, 09 hours 23 minutes 57 seconds
+row 0: CCSDS_OPM_VERS, value 1.0
 row 16: about 65035 tenths of kilometres
 message 2: reason 2, 0 rows
 the ticket is alive
@@ -82,7 +82,7 @@ check_manual_example() {
   build_both manual
   says manual console/sessions/whole.oem <<'SAYS'
 row 0 CCSDS_OEM_VERS 1.0
-row 1 CREATION_DATE year 2000 month 01 day 01, 00 hours 00 minutes 00 seconds
+row 1 CREATION_DATE 2000-01-01T00:00:00
 row 2 ORIGINATOR A
 row 3 META_START
 row 4 OBJECT_NAME B
@@ -90,10 +90,10 @@ row 5 OBJECT_ID C
 row 6 CENTER_NAME D
 row 7 REF_FRAME E
 row 8 TIME_SYSTEM UTC
-row 9 START_TIME year 2000 day 001, 00 hours 00 minutes 00 seconds
-row 10 STOP_TIME year 2000 day 001, 00 hours 00 minutes 00 seconds
+row 9 START_TIME 2000-001T00:00:00
+row 10 STOP_TIME 2000-001T00:00:00
 row 11 META_STOP
-row 12 EPOCH year 2000 month 01 day 01, 00 hours 00 minutes 00 seconds
+row 12 EPOCH 2000-01-01T00:00:00
 row 13 X 1 kilometres
 row 14 Y 2 kilometres
 row 15 Z 3 kilometres

@@ -1,6 +1,6 @@
 #!/usr/bin/env bash
-# The console over the archive, its stored sessions, its wrong builds, which these must tell from it, and what a voice makes of what it says. With arguments it
-# is run with them instead: host/console.sh FEED [--say CMD].
+# The console over the archive, its stored sessions, and its wrong builds, which these must tell from it. With arguments it is run with them instead:
+# host/console.sh FEED [--say CMD].
 set -eu
 cd "$(dirname "$0")/.."
 . host/tools.sh
@@ -12,4 +12,3 @@ if [ $# -gt 0 ]; then
 fi
 console/check.sh $RUN build/odm-console
 console/wrong.sh "$CC" $RUN build/odm-console
-console/heard.sh $RUN build/odm-console
