@@ -8,11 +8,11 @@ names=("$@")
 
 built_of() { if [ "$1" = odm ]; then echo target/staticlib/libodm.a; else echo "target/bin/$1"; fi; }
 
-uses_of() { sed -n "s/^$1://p" crates.txt; }
+uses_of() { sed -n "s/^$1\( staticlib\)\{0,1\}://p" crates.txt; }
 
 # A crate uses only those above it in crates.txt.
 needed=$(tac crates.txt | awk -F: -v names="${names[*]}" 'BEGIN { n = split(names, uses, " "); for (k = 1; k <= n; k++) on[uses[k]] = 1 }
-  on[$1] { print $1; n = split($2, uses, " "); for (k = 1; k <= n; k++) on[uses[k]] = 1 }' | tac)
+  { sub(/ staticlib$/, "", $1) } on[$1] { print $1; n = split($2, uses, " "); for (k = 1; k <= n; k++) on[uses[k]] = 1 }' | tac)
 
 is_stale() { # whether a crate was never proved, or a file of it changed since, or a crate that it uses is stale or was proved since
   local mark=target/stamp/$1 files=(crates.txt "crates/$1") use
@@ -22,7 +22,7 @@ is_stale() { # whether a crate was never proved, or a file of it changed since, 
     case $stale in *" $use "*) return 0 ;; esac
     [ ! -e "target/stamp/$use" ] || files+=("target/stamp/$use")
   done
-  [ -n "$(find "${files[@]}" -name must-fail -prune -o -type f -newer "$mark" -print -quit)" ]
+  [ -n "$(find "${files[@]}" \( -name must-fail -o -name out \) -prune -o -type f -newer "$mark" -print -quit)" ]
 }
 
 for name in "${names[@]}"; do [ -e "$(built_of "$name")" ] || rm -f "target/stamp/$name"; done
@@ -45,27 +45,31 @@ fi
 echo "proving $count crate$([ "$count" = 1 ] || echo s) first, which takes about $((10 + count * 12)) seconds" >&2
 
 log=build/prove.log
-mkdir -p build
+mkdir -p build target/stamp target/staticlib target/bin
 
 hear() { # what the prover says, all of it into the log, and a line for each crate that is proved
-  local line
+  local line crate= start=$SECONDS
   while IFS= read -r line; do
     printf '%s\n' "$line" >>"$log"
-    if [[ $line =~ ^"rt: "([a-z_]+)" proved ("([0-9]+)" s)"$ ]]; then echo "${BASH_REMATCH[1]} proved, ${BASH_REMATCH[2]} seconds" >&2; fi
+    if [[ $line =~ ^"crate "([a-z_]+)": " ]]; then crate=${BASH_REMATCH[1]}; fi
+    if [[ $line == logic=proved* ]]; then
+      echo "$crate proved, $((SECONDS - start)) seconds" >&2
+      start=$SECONDS
+    fi
   done
 }
 
-prove() { # the archive by itself would have the crates under it proved one after the other
-  local crates=() name
+prove() { # the kit proves the crates below by itself, and leaves what it builds in the crate's own out/
+  local name
   for name in "${wanted[@]}"; do
-    # shellcheck disable=SC2207
-    if [ "$name" = odm ]; then crates+=($(uses_of odm)); else crates+=("$name"); fi
+    if [ "$name" = odm ]; then
+      (cd crates/odm && rt lib) || return
+      cp crates/odm/out/libodm.a target/staticlib/ || return
+    else
+      (cd "crates/$name" && rt run) || return
+      cp "crates/$name/out/$name" target/bin/ || return
+    fi
   done
-  rt check "${crates[@]}" || return
-  case " ${wanted[*]} " in *" odm "*) ;; *) return ;; esac
-  local start=$SECONDS
-  rt staticlib odm || return
-  echo "rt: odm proved ($((SECONDS - start)) s)"
 }
 
 : >"$log"
@@ -77,5 +81,5 @@ if ! prove 2>&1 | hear; then
   exit 1
 fi
 # Marked with the time at which this began: a file with a new time and its old contents is not looked at again, and one changed meanwhile is.
-for crate in $stale; do touch -c -r "$began" "target/stamp/$crate"; done
+for crate in $stale; do touch -r "$began" "target/stamp/$crate"; done
 for name in "${wanted[@]}"; do touch -r "$began" "$(built_of "$name")"; done

@@ -8,8 +8,5 @@ if [ $# -ne 1 ] || ! [ -r "$1" ]; then
   exit 1
 fi
 host/prove.sh odm_rows
-home=$(dirname "$(dirname "$(rt doc)")")
-tools=$home/on/$(uname -m)/toolchain
-emulator=
-[ "$(uname -m)" = x86_64 ] || emulator=$tools/bin/qemu-x86_64
-exec $emulator "$tools/lib/ld-linux-x86-64.so.2" --library-path "$tools/lib" target/bin/odm_rows <"$1"
+[ "$(uname -m)" = x86_64 ] || exec qemu-x86_64 target/bin/odm_rows <"$1"
+exec target/bin/odm_rows <"$1"
