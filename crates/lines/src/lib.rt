@@ -121,6 +121,7 @@ fn text_end(feed: &[u8], from: usize) -> usize
 }
 
 // How many bytes an ending takes whose first byte is b, with c after it: none where b is neither CR nor LF.
+#[tactic(auto, unfolding(crate::specs::Feed::end_with))]
 fn ends_with(b: u8, c: u8) -> usize
     ensures { result ≡ end_with b c }
 {
