@@ -42,6 +42,7 @@ pub struct Next {
 }
 
 // Whether a message type assigns a code.
+#[tactic(auto, unfolding(crate::specs::Rows::pick))]
 fn assigns_code(form: Form, code: u16) -> bool
     ensures { result ≡ assigns form code }
 {
@@ -58,6 +59,7 @@ fn assigns_code(form: Form, code: u16) -> bool
 }
 
 // The code of an assignment's keyword.
+#[tactic(auto, unfolding(crate::specs::Keywords::keyword_of))]
 pub fn keyword_of(form: Form, text: &[u8]) -> Keyword
     ensures { result ≡ keyword_of form text.now }
 {
@@ -70,6 +72,7 @@ pub fn keyword_of(form: Form, text: &[u8]) -> Keyword
 }
 
 // What kind of value a code has.
+#[tactic(auto, unfolding(crate::specs::Rows::pick))]
 pub fn kind_of(code: u16) -> Kind
     ensures { result ≡ kind_of code }
 {
@@ -84,6 +87,7 @@ pub fn kind_of(code: u16) -> Kind
 }
 
 // What stands after a number is right: nothing, or the unit of its code.
+#[tactic(auto, unfolding(crate::specs::Rows::pick, crate::specs::Keywords::is_unit, words::specs::Words::bytes, words::specs::Words::is_word))]
 pub fn unit_right(code: u16, text: &[u8]) -> bool
     ensures { result ≡ is_unit code text.now }
 {
@@ -124,6 +128,7 @@ fn one_of(low: u16, high: u16) -> Next
     }
 }
 
+#[tactic(auto, unfolding(crate::specs::Rows::pick))]
 fn opm_next(last: u16) -> Next
     ensures { result ≡ opm_next last }
 {
@@ -147,6 +152,7 @@ fn opm_next(last: u16) -> Next
     }
 }
 
+#[tactic(auto, unfolding(crate::specs::Rows::pick))]
 fn oem_next(last: u16) -> Next
     ensures { result ≡ oem_next last }
 {
@@ -185,6 +191,7 @@ fn oem_next(last: u16) -> Next
 }
 
 // What may follow a line of this code; 0 stands before the first line.
+#[tactic(auto, unfolding(crate::specs::Order::next_of))]
 pub fn next_of(form: Form, last: u16) -> Next
     ensures { result ≡ next_of form last }
 {
@@ -195,6 +202,7 @@ pub fn next_of(form: Form, last: u16) -> Next
 }
 
 // A line of this code may stand there.
+#[tactic(auto, unfolding(crate::specs::Order::allows))]
 pub fn allows_code(next: Next, code: u16) -> bool
     ensures { result ≡ allows next code }
 {

@@ -115,3 +115,11 @@ module _ (group text : List ℕ) (i : ℕ) (h : 0 < length text) (t : Turn group
   other e =
       let z : 0 < i + 1 + length text - (i + 1) = omega arith in
       unlike (word group text i) text (simp (length-take, length-drop) (omega arith)) h (λ q. e (rw (get_or-take, get_or-drop, add-zero) at q))
+
+-- the walk at `i`: what is left, and that a keyword that is still to come is in the group whole
+pub record Walk (group text : List ℕ) (i : ℕ) : Type 0 where
+  pub left : Left group text i
+  pub fits : i < length group → i + 1 + length text ≤ length group
+
+pub walk : {group text : List ℕ} {i : ℕ} → Left group text i → Walk group text i
+walk l = record { left = l; fits = λ h. (turn _ _ _ l h).fits }
