@@ -146,6 +146,7 @@ fn year_day(leap: bool, day: u64) -> u64
 }
 
 // The last second of a minute: 60 at 23:59, where it may stand.
+#[tactic(auto, unfolding(crate::specs::Epoch::last_second))]
 fn last_second(hour: u64, minute: u64, sixty: bool) -> u64
     ensures { result ≡ last_second hour minute sixty }
 {
