@@ -1,9 +1,10 @@
 -- Laws of the definitions on a number said.
 -- Assumes nothing.
-use mathlib.Core.Path.{◌≡◌, refl, ap, ◌∙◌}
+use mathlib.Core.Path.{◌≡◌, refl, sym, ap, ◌∙◌}
 use mathlib.Core.Bool.{Bool, true, false}
 use mathlib.Core.List.{List}
-use Prim.Native.Nat.{ℕ, zero, suc, ◌^◌, ◌<◌, ◌≤◌}
+use Prim.Native.Nat.{ℕ, zero, suc, ◌+◌, ◌^◌, ◌<◌, ◌≤◌}
+use native.Mathlib.Nat.{add-zero}
 use native.Mathlib.Omega.{arith}
 use lib.IntN.{ℤ, pos, ◌-ℤ◌, +ℤ_idl, neg_ℤ}
 use mir.Syntax.{w64}
@@ -11,9 +12,10 @@ use mir.Val.{SFits, to_z, of_z}
 use mir.Facts.{to_z_pos, to_z-of_z}
 use borrow.Author.Tests.{lt-ltb, le-ltb}
 use Rattle.reasons.specs.declared.Reason.TheVariants as Reasons
-use Rattle.values.specs.Number.{is_number}
-use Rattle.rounding.specs.Exact.{is_minus, numerator, denominator}
+use Rattle.values.specs.Number.{unsigned, is_number, digits_from}
+use Rattle.rounding.specs.Exact.{is_minus, size_by, numerator, denominator}
 use Rattle.rounding.specs.Say.{rounded, signed, size_limit, said_of, say_of}
+use Rattle.rounding.specs.declared.Size.{Size}
 use Rattle.rounding.specs.declared.Said.TheVariants.{Units, Refused}
 
 -- ---- the sign
@@ -55,6 +57,24 @@ module _ (minus : Bool) (u : ℕ) where
   pub said_small : u ≤ size_limit → said_of minus u ≡ Units (signed minus u)
   unfolding said_of
   said_small h = rw (le-ltb size_limit u h, said_of)
+
+-- ---- an exponent's power of ten, on the side that its sign says
+
+module _ (v m : ℕ) (e : List ℕ) (p : ℕ) (k : p ≡ digits_from 0 (unsigned e)) where
+  abbrev sided : Bool → ℕ → Size
+  sided minus p = record { digits = v; up = elim minus [ true ↦ 0 | false ↦ p ]; down = m + elim minus [ true ↦ p | false ↦ 0 ] }
+
+  by_sign : (minus : Bool) → minus ≡ is_minus e → sided minus p ≡ size_by v m e
+  by_sign minus h = ap (sided minus) k ∙ ap (λ (b : Bool). sided b (digits_from 0 (unsigned e))) h
+
+  pub power_down : true ≡ is_minus e → ◌≡◌ {A = Size} (record { digits = v; up = 0; down = m + p }) (size_by v m e)
+  power_down h = by_sign true h
+
+  pub power_up : false ≡ is_minus e → ◌≡◌ {A = Size} (record { digits = v; up = p; down = m }) (size_by v m e)
+  power_up h = ap (λ (d : ℕ). record { digits = v; up = p; down = d }) (sym (add-zero m)) ∙ by_sign false h
+
+pub same_size : {v w m n : ℕ} {e f : List ℕ} → v ≡ w → m ≡ n → e ≡ f → size_by v m e ≡ size_by w n f
+same_size {v} {w} {m} {n} {e} {f} a b c = ap (λ (x : ℕ). size_by x m e) a ∙ ap (λ (x : ℕ). size_by w x e) b ∙ ap (size_by w n) c
 
 -- ---- the checks, in their order
 
