@@ -39,6 +39,7 @@ pub struct Step {
 }
 
 // The code of a META line, 0 where the text is none.
+#[tactic(auto, unfolding(crate::specs::Step::meta_code, words::specs::Words::bytes))]
 fn meta_code(form: Form, text: &[u8]) -> u16
     ensures { result ≡ meta_code form text.now }
 {
@@ -282,6 +283,7 @@ impl State {
     }
 
     // A number, which ends at the first blank, and its unit.
+    #[tactic(auto, using(crate::proofs::Laws::trim_inside, crate::proofs::Laws::number_bad))]
     fn number(self, code: u16, p: Span, text: &[u8]) -> Step
         requires { Inside p text.now }
         ensures { result ≡ number_of self code p text.now }
@@ -357,6 +359,7 @@ impl State {
     }
 
     // The value of an assignment that stands in its place.
+    #[tactic(auto, unfolding(crate::specs::Step::value_of))]
     fn value(self, code: u16, p: Span, text: &[u8]) -> Step
         requires { Inside p text.now }
         ensures { result ≡ value_of self code p text.now }
@@ -375,6 +378,7 @@ impl State {
     }
 
     // An assignment, its sides found.
+    #[tactic(auto, unfolding(crate::specs::Step::assign_of))]
     fn assign(self, x: Sides, text: &[u8]) -> Step
         requires { Inside x.keyword text.now × Inside x.value text.now }
         ensures { result ≡ assign_of self x text.now }
@@ -406,6 +410,7 @@ impl State {
     }
 
     // A line that is neither comment nor META line.
+    #[tactic(auto, using(crate::proofs::Laws::sides_inside), unfolding(crate::specs::Step::plain_of))]
     fn plain(self, text: &[u8], sure: bool) -> Step
         requires { Sure sure (plain_of self text.now) }
         ensures { result ≡ plain_of self text.now }
@@ -433,6 +438,7 @@ impl State {
     }
 
     // A line that is no comment; its trimmed part is t.
+    #[tactic(auto, unfolding(crate::specs::Step::uncommented_of))]
     fn uncommented(self, t: Span, text: &[u8], sure: bool) -> Step
         requires inside { Inside t text.now }
         requires sure { Sure sure (uncommented_of self t text.now) }
@@ -449,6 +455,7 @@ impl State {
     }
 
     // A line that is not blank; its trimmed part is t.
+    #[tactic(auto, unfolding(crate::specs::Step::filled_of))]
     fn filled(self, t: Span, text: &[u8], sure: bool) -> Step
         requires inside { Inside t text.now }
         requires sure { Sure sure (filled_of self t text.now) }
@@ -461,6 +468,7 @@ impl State {
     }
 
     // One line judged; where whoever asks is sure that it is right, only what its rows and the next state need is looked at again.
+    #[tactic(auto, using(crate::proofs::Laws::trim_inside, crate::proofs::Laws::step_right), unfolding(crate::specs::Step::step_of))]
     pub fn step(self, text: &[u8], sure: bool) -> Step
         requires { Sure sure (step_of self text.now) }
         ensures { result ≡ step_of self text.now }
