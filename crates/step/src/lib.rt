@@ -58,6 +58,7 @@ fn meta_code(form: Form, text: &[u8]) -> u16
 }
 
 // Each of the seven fields but the first is a number.
+#[tactic(auto, using(crate::proofs::Laws::numbers_end, crate::proofs::Laws::numbers_more, crate::proofs::Laws::numbers_stop))]
 fn are_numbers(spans: [Span; 7], text: &[u8]) -> bool
     requires { SevenInside spans text.now }
     ensures { result ≡ are_numbers (drop 1 spans) text.now }
@@ -193,6 +194,7 @@ impl State {
     }
 
     // A data line whose epoch has been read.
+    #[tactic(auto, unfolding(crate::specs::Step::data_at))]
     fn data_at(self, f: Fields, t: Instant, text: &[u8], sure: bool) -> Step
         requires seven_inside { SevenInside f.spans text.now }
         requires sure { Sure sure (data_at self f t text.now) }
@@ -219,6 +221,7 @@ impl State {
     }
 
     // A line of seven fields in an OEM.
+    #[tactic(auto, unfolding(crate::specs::Step::data_of))]
     fn data(self, f: Fields, text: &[u8], sure: bool) -> Step
         requires seven_inside { SevenInside f.spans text.now }
         requires sure { Sure sure (data_of self f text.now) }
@@ -238,6 +241,7 @@ impl State {
     }
 
     // A line that is no assignment: a data line in an OEM, or nothing that has a form.
+    #[tactic(auto, using(crate::proofs::Laws::fields_inside), unfolding(crate::specs::Step::fields_of))]
     fn fields(self, text: &[u8], sure: bool) -> Step
         requires { Sure sure (fields_of self text.now) }
         ensures { result ≡ fields_of self text.now }
@@ -341,6 +345,7 @@ impl State {
     }
 
     // An epoch.
+    #[tactic(auto, unfolding(crate::specs::Step::time_of))]
     fn time(self, code: u16, p: Span, text: &[u8]) -> Step
         requires { Inside p text.now }
         ensures { result ≡ time_of self code p text.now }
@@ -400,6 +405,7 @@ impl State {
     }
 
     // A META line, whose keyword ends at n.
+    #[tactic(auto, unfolding(crate::specs::Step::meta_of))]
     fn meta(self, code: u16, n: usize) -> Step
         ensures { result ≡ meta_of self code n }
     {
@@ -422,6 +428,7 @@ impl State {
     }
 
     // A comment that follows a data line is noted.
+    #[tactic(auto, unfolding(crate::specs::Step::past_comment))]
     fn past_comment(self) -> State
         ensures { result ≡ past_comment self }
     {
