@@ -4,18 +4,12 @@ use Prim.Native.Nat.{ℕ}
 use mathlib.Core.Path.{ap}
 use native.Mathlib.Omega.{arith}
 use lib.ListN.{length, length-take}
-use Rattle.parts.proofs.past_long.Statement.{statement}
-use Rattle.parts.proofs.past_long.Tie as tie
+use Rattle.parts.proofs.past_long.Goals as goal
 
-returns : tie.Need-returns
-returns c =
-    let s = c.before.args.text.now in
+pub returns-then-to-lt254 : goal.returns-then-to-lt254
+returns-then-to-lt254 c = let s = c.args.text.now in
     ap (λ (n : ℕ). record { from = n; to = length s }) (omega (arith, length-take 254 s))
 
-returns-2 : tie.Need-returns-2
-returns-2 c =
-    let s = c.before.args.text.now in
+pub returns : goal.returns
+returns c = let s = c.args.text.now in
     ap (λ (n : ℕ). record { from = n; to = length s }) (omega (arith, length-take 254 s))
-
-pub past-long-spec : {M : Type 1} → statement M
-past-long-spec = tie.close (tie.spec returns returns-2)
