@@ -3,7 +3,6 @@
 use native.Mathlib.Omega.{arith}
 use Rattle.parts.specs.Parts.{value_in}
 use Rattle.parts.proofs.Laws.{number_within}
-use borrow.Author.Rules.{rules}
 use Rattle.parts.proofs.value_in.Goals as goal
 
 pub overflow_add-result : goal.overflow_add-result
