@@ -62,6 +62,7 @@ fn keyword_part(text: &[u8]) -> Span
 }
 
 // The value in its field: a number ends at the first blank.
+#[tactic(auto, unfolding(crate::specs::Parts::value_in))]
 fn value_in(kind: Kind, p: Span, text: &[u8]) -> Span
     requires { Inside p text.now }
     ensures { result ≡ value_in kind p text.now }

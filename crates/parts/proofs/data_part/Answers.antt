@@ -3,7 +3,6 @@
 use mathlib.Core.Path.{◌∙◌}
 use Rattle.step.proofs.Laws.{fields_inside}
 use Rattle.parts.proofs.Laws.{data_bad, data_later}
-use borrow.Author.Rules.{rules}
 use Rattle.parts.proofs.data_part.Goals as goal
 
 pub slice_bounds-epoch_of-count : goal.slice_bounds-epoch_of-count

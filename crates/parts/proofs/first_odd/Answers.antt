@@ -7,7 +7,6 @@ use native.Mathlib.Omega.{arith}
 use lib.ListN.{length-take}
 use Rattle.words.proofs.Laws.{run-le}
 use Rattle.lines.specs.Text.{is_odd, odd_at}
-use borrow.Author.Rules.{rules}
 use Rattle.parts.proofs.first_odd.Goals as goal
 
 pub returns-then-from-text : goal.returns-then-from-text

@@ -2,7 +2,6 @@
 -- Assumes nothing.
 use borrow.Author.Tests.{eq-eqb, ne_eqb}
 use Rattle.parts.specs.Parts.{keyword_part}
-use borrow.Author.Rules.{rules}
 use Rattle.parts.proofs.keyword_part.Goals as goal
 
 pub returns-then-keyword-eq0 : goal.returns-then-keyword-eq0

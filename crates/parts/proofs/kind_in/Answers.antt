@@ -2,7 +2,6 @@
 -- Assumes nothing.
 use mathlib.Core.Path.{sym, ◌∙◌}
 use Rattle.parts.specs.Parts.{kind_in}
-use borrow.Author.Rules.{rules}
 use Rattle.parts.proofs.kind_in.Goals as goal
 
 pub returns-in-Code : goal.returns-in-Code

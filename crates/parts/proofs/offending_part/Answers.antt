@@ -3,7 +3,6 @@
 use mathlib.Core.Path.{◌∙◌}
 use native.Mathlib.Omega.{arith}
 use Rattle.parts.proofs.Laws.{offends}
-use borrow.Author.Rules.{rules}
 use Rattle.parts.proofs.offending_part.Goals as goal
 
 pub returns-in-3 : goal.returns-in-3

@@ -2,7 +2,6 @@
 -- Assumes nothing.
 use mathlib.Core.Path.{sym, ◌∙◌}
 use Rattle.parts.specs.Parts.{sides_in}
-use borrow.Author.Rules.{rules}
 use Rattle.parts.proofs.sides_in.Goals as goal
 
 pub returns-in-Parted : goal.returns-in-Parted

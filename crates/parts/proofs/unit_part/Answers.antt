@@ -7,7 +7,6 @@ use Rattle.words.proofs.Laws.{part_from}
 use Rattle.step.specs.Step.{part}
 use Rattle.step.proofs.Laws.{word-le, trim_inside}
 use Rattle.parts.proofs.Laws.{sides_within, unit_found, unit_within}
-use borrow.Author.Rules.{rules}
 use Rattle.parts.proofs.unit_part.Goals as goal
 
 -- the unit lies in the text

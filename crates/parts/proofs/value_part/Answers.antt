@@ -3,7 +3,6 @@
 use mathlib.Core.Path.{sym, ◌∙◌}
 use Rattle.step.proofs.Laws.{sides_inside}
 use Rattle.parts.specs.Parts.{value_part}
-use borrow.Author.Rules.{rules}
 use Rattle.parts.proofs.value_part.Goals as goal
 
 pub kind_in-requires : goal.kind_in-requires
