@@ -1,12 +1,10 @@
 -- `judge::find_message` meets its contract. The invariant: the lines from the heading line sought are those from the one still to be counted.
 -- Assumes nothing.
-use Prim.Native.Nat.{◌-◌, ◌≤◌}
-use mathlib.Core.Path.{◌≡◌, refl, sym, ap, ◌∙◌}
+use mathlib.Core.Path.{refl, sym, ap, ◌∙◌}
 use native.Mathlib.Omega.{arith}
-use lib.ListN.{length, drop}
-use Rattle.lines.specs.Feed.{lines, lines_at}
+use Rattle.lines.specs.Feed.{lines}
 use Rattle.lines.proofs.Lists.{Placed, placed}
-use Rattle.judge.specs.Message.{from_heading, form_of, found_of, FoundIs}
+use Rattle.judge.specs.Message.{form_of, found_of, FoundIs}
 use Rattle.judge.proofs.Laws.{text_left, found_here, over_from, from_none, from_here, from_later, from_passed}
 use Rattle.judge.proofs.find_message.Goals as goal
 
@@ -50,8 +48,7 @@ loop-at-smaller-else-left-eq1 c =
 
 pub loop-at-preserved-else-left-eq1 : goal.loop-at-preserved-else-left-eq1
 loop-at-preserved-else-left-eq1 c =
-    let here : Placed c.args.feed.now c.loop-at.at c.line_at-ends.result = placed _ _ _ c.loop-at-test.true c.line_at-ends.ensures in
-    (
+    let here : Placed c.args.feed.now c.loop-at.at c.line_at-ends.result = placed _ _ _ c.loop-at-test.true c.line_at-ends.ensures in (
       c.loop-at.invariant.0 ∙ from_later _ _ _ c.loop-at-test.true c.line_at-ends.ensures _
           (sym c.is_heading.ensures ∙ c.if-is_heading.true) c.if-left-eq1.false,
       omega arith,
@@ -65,8 +62,7 @@ loop-at-smaller c =
 
 pub loop-at-preserved : goal.loop-at-preserved
 loop-at-preserved c =
-    let here : Placed c.args.feed.now c.loop-at.at c.line_at-ends.result = placed _ _ _ c.loop-at-test.true c.line_at-ends.ensures in
-    (
+    let here : Placed c.args.feed.now c.loop-at.at c.line_at-ends.result = placed _ _ _ c.loop-at-test.true c.line_at-ends.ensures in (
       c.loop-at.invariant.0 ∙ from_passed _ _ _ c.loop-at-test.true c.line_at-ends.ensures _
           (sym c.is_heading.ensures ∙ c.if-is_heading.false),
       omega arith,

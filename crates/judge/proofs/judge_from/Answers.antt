@@ -1,17 +1,15 @@
 -- `judge::judge_from` meets its contract. The invariant: the lines left, judged from here, are judged as the whole was;
 -- each takes at least a byte and has at most seven rows, so that the counts fit.
-use Prim.Native.Nat.{◌+◌, ◌*◌, ◌-◌, ◌≤◌, ◌<◌}
+use Prim.Native.Nat.{◌+◌, ◌≤◌, ◌<◌}
 use mathlib.Core.Path.{◌≡◌, refl, sym, ◌∙◌}
-use mathlib.Core.Bool.{true, false}
+use mathlib.Core.Bool.{false}
 use native.Mathlib.Omega.{arith}
 use lib.Dec.{eqb}
 use lib.ListN.{length}
-use borrow.Author.Rules.{rules}
 use borrow.Author.Tests.{ne_eqb}
 use Rattle.step.proofs.Sound.{spans}
 use Rattle.step.specs.declared.Verdict.TheVariants.{Right}
-use Rattle.judge.specs.Message.{texts, judge_texts}
-use Rattle.judge.proofs.Laws.{left, unsure, walk_on, judged-end, judged-wrong, judged-right}
+use Rattle.judge.proofs.Laws.{unsure, walk_on, judged-end, judged-wrong, judged-right}
 use Rattle.judge.proofs.judge_from.Goals as goal
 
 -- Assumes nothing.

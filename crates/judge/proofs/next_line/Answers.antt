@@ -1,14 +1,12 @@
 -- `judge::next_line` meets its contract: the feed's end, the next heading line, or the line judged.
 -- Assumes nothing.
-use mathlib.Core.Path.{◌≡◌, sym, ap₂, ◌∙◌}
+use mathlib.Core.Path.{◌≡◌, sym, ◌∙◌}
 use mathlib.Core.List.{◌∷◌}
-use mathlib.Core.Logic.{⊎_elim}
-use mathlib.Core.Bool.{false, ◌&&◌}
+use mathlib.Core.Bool.{false}
 use native.Mathlib.Omega.{arith}
 use Rattle.lines.proofs.Lists.{Placed, placed}
 use Rattle.judge.specs.Message.{up_to, SureNext}
 use Rattle.judge.proofs.Laws.{line_at, rest, left, over_up, up_stop, up_more, moved-end, moved_more}
-use borrow.Author.Rules.{rules}
 use Rattle.judge.proofs.next_line.Goals as goal
 use Rattle.judge.proofs.next_line.Goals.{else-not-first, then-not-first+else-is_heading}
 

@@ -4,7 +4,6 @@ use mathlib.Core.Path.{◌≡◌, sym, ◌∙◌}
 use Rattle.judge.specs.Message.{judge_of, FoundIs}
 use Rattle.judge.specs.declared.Found.TheVariants.{Place}
 use Rattle.judge.proofs.Laws.{judge_long, judge_missing, judge_found, sighted-wrong, sighted-right}
-use borrow.Author.Rules.{rules}
 use Rattle.judge.proofs.sight.Goals as goal
 
 -- what is judged from the place where the message is found is its judgement
