@@ -53,7 +53,7 @@ unfolding after run end_len
 joined_at at p [] w v = line_off at p [] w refl ∙ rw lines_end
 joined_at at p (q ∷ ps) w v =
     line_off at p (10 ∷ q ++ after 10 ps) w refl
-    ∙ rw (lf_alone q (after 10 ps) v.0) (ap (λ (l : List (List ℕ)). p ∷ l) (joined_at _ q ps v.0 v.1))
+    ∙ rw (lf_alone q (after 10 ps) v.0) (ap (λ (l : List (List ℕ)). p ∷ l) (joined_at (at + (length p + 1)) q ps v.0 v.1))
 
 -- the lines of a text so joined are the lines that were joined
 pub lines_joined : (p : List ℕ) (ps : List (List ℕ)) → Whole p → Each Whole ps → texts (lines (p ++ after 10 ps)) ≡ p ∷ ps

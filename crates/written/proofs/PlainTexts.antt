@@ -14,7 +14,6 @@ use Rattle.words.specs.Words.{Each}
 use Rattle.lines.specs.declared.Assignment.TheVariants as Assigns
 use Rattle.lines.specs.Text.{assignment_of, is_odd, split_of, heading_of}
 use Rattle.lines.specs.declared.Span.{Span}
-use Rattle.lines.specs.declared.Comment.TheVariants.{Other}
 use Rattle.epochs.specs.declared.Instant.{Instant}
 use Rattle.grammar.specs.Rows.{pick}
 use Rattle.grammar.specs.Order.{next_of, allows}
