@@ -1,12 +1,10 @@
 -- `write::put_keyword` meets its contract: the part put first is the keyword of the line's text, and `=` goes behind it.
 -- Assumes nothing.
 use mathlib.Core.Path.{◌≡◌}
-use mathlib.Core.List.{List, ◌++◌}
-use mathlib.Core.Bool.{Bool, not}
-use Prim.Native.Nat.{ℕ, ◌-◌}
+use mathlib.Core.List.{List}
+use Prim.Native.Nat.{ℕ, ◌-◌, ◌≤◌}
 use native.Mathlib.Omega.{arith}
-use lib.Dec.{eqb}
-use lib.ListN.{take, drop, length-take}
+use lib.ListN.{length, take, drop, length-take}
 use Rattle.words.specs.Words.{bytes}
 use Rattle.words.proofs.Laws.{run-le}
 use Rattle.lines.specs.Feed.{ends_of}
@@ -18,8 +16,7 @@ use Rattle.step.specs.Step.{part}
 use Rattle.step.proofs.Laws.{trim_inside}
 use Rattle.judge.proofs.Laws.{text_left}
 use Rattle.write.specs.Inner.{text_at, name_of}
-use Rattle.ink.specs.Ink.{Room}
-use Rattle.ink.proofs.Laws.{Put, put_then, room_first, room_then}
+use Rattle.ink.proofs.Laws.{put_then, room_first, room_then}
 use Rattle.write.proofs.put_keyword.Goals as goal
 
 -- what is put first is the keyword
@@ -40,7 +37,8 @@ slice_bounds-text-end c = let here = placed _ _ _ c.requires.at_in_bounds c.line
 pub slice_bounds-trim-end : goal.slice_bounds-trim-end
 slice_bounds-trim-end c =
     let t = take (c.line_at-ends.result.end - c.args.at) (drop c.args.at c.args.feed.now) in
-    omega (arith, length-take c.byte_at-equals.result t, run-le (λ b. not (eqb b 61)) t)
+    let within : c.byte_at-equals.result ≤ length t = rw c.byte_at-equals.ensures (run-le _ t) in
+    omega (arith, length-take c.byte_at-equals.result t)
 
 pub slice_bounds-put-count : goal.slice_bounds-put-count
 slice_bounds-put-count c = let inside = trim_inside _ _ c.trim-name.ensures in omega (arith, inside)

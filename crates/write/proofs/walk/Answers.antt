@@ -1,25 +1,21 @@
 -- `write::walk` meets its contract: a line with rows is put, and what is left after it, put from there on, gives what all of them would have given.
 -- Assumes nothing.
-use Prim.Native.Nat.{◌+◌, ◌-◌, ◌*◌, ◌≤◌}
+use Prim.Native.Nat.{◌+◌, ◌*◌, ◌≤◌}
 use mathlib.Core.Path.{◌≡◌, refl, sym, ap, ◌∙◌}
 use mathlib.Core.Bool.{true, false}
-use mathlib.Core.Logic.{⊎_elim}
-use mathlib.Core.List.{◌++◌}
 use native.Mathlib.Omega.{arith}
 use lib.Dec.{eqb}
 use lib.ListN.{length, length-append}
-use borrow.Author.Rules.{rules}
 use borrow.Author.Tests.{eq-eqb, ne_eqb}
 use Rattle.grammar.specs.declared.Form.{Form}
-use Rattle.step.specs.Step.{step_of}
 use Rattle.step.specs.declared.Verdict.TheVariants.{Right}
 use Rattle.judge.specs.Message.{texts, judge_texts}
 use Rattle.judge.specs.declared.Judged.TheVariants.{Accepted}
-use Rattle.judge.proofs.Laws.{left, sure_next, AtLine, walk_on, walk_end, verdict, judged-wrong, judged-right, not_both}
+use Rattle.judge.proofs.Laws.{left, sure_next, walk_on, walk_end, verdict, judged-wrong, judged-right, not_both}
 use Rattle.write.specs.Plain.{plain}
 use Rattle.write.specs.Inner.{line_of, items_from, written_from}
 use Rattle.ink.proofs.Laws.{Left, left_start, left_turn, left_same, left_done}
-use Rattle.write.proofs.Walks.{Accepts, kept, values_held, named, line_short, some_left, none_left, end_left}
+use Rattle.write.proofs.Walks.{kept, values_held, named, line_short, some_left, none_left, end_left}
 use Rattle.write.proofs.walk.Goals as goal
 use Rattle.write.proofs.walk.Goals.{else-step-gt0, then-step-gt0}
 

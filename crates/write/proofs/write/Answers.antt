@@ -1,9 +1,7 @@
 -- `write::write` meets its contract: a refusal is the answer; a message that is right is written from the place where it is found.
 -- Assumes nothing.
 use mathlib.Core.Path.{refl}
-use borrow.Author.Rules.{rules}
 use Rattle.judge.specs.Message.{SightedIs}
-use Rattle.judge.specs.declared.Sighted.TheVariants.{Right}
 use Rattle.write.specs.Written.{answer_of, buffer_after}
 use Rattle.write.proofs.Walks.{found_writable, found_plain}
 use Rattle.write.proofs.write.Goals as goal
