@@ -1,12 +1,11 @@
 -- `rows::put_rows` meets its contract. The invariant: the rows left, put from here on, give what all of them would have given.
 -- Assumes nothing.
-use Prim.Native.Nat.{◌+◌, ◌-◌, ◌≤◌}
+use Prim.Native.Nat.{◌+◌, ◌≤◌}
 use mathlib.Core.Path.{◌≡◌, refl, sym, ◌∙◌}
 use native.Mathlib.Omega.{arith}
-use lib.ListN.{length, take, drop, get_or, length-take, length-drop}
+use lib.ListN.{take, drop, get_or, length-take, length-drop}
 use Rattle.lines.specs.Text.{no_span}
-use Rattle.judge.specs.Message.{feed_limit, rows_at}
-use Rattle.tables.specs.Table.{put_rows}
+use Rattle.judge.specs.Message.{feed_limit}
 use Rattle.rows.proofs.Fills.{put_none, put_turn}
 use Rattle.rows.proofs.put_rows.Goals as goal
 
@@ -52,10 +51,10 @@ overflow_cast-row-in-loop-i c =
 
 pub loop-i-preserved : goal.loop-i-preserved
 loop-i-preserved c = (
-      omega arith,
-      c.put_row.auto.table ∙ c.loop-i.invariant.1,
-      c.loop-i.invariant.2 ∙ put_turn _ _ _ _ _ _ _ c.args.step.spans _ c.loop-i-test.true (omega (arith, c.requires.few, c.requires.size)) ∙ rw c.put_row.ensures,
-    )
+  omega arith,
+  c.put_row.auto.table ∙ c.loop-i.invariant.1,
+  c.loop-i.invariant.2 ∙ put_turn _ _ _ _ _ _ _ c.args.step.spans _ c.loop-i-test.true (omega (arith, c.requires.few, c.requires.size)) ∙ rw c.put_row.ensures,
+)
 
 pub returns : goal.returns
 returns c = let ps = take c.args.step.count c.args.step.spans in

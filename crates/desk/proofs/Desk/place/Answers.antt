@@ -5,7 +5,6 @@ use lib.ListN.{length}
 use Rattle.judge.specs.Message.{judge_of}
 use Rattle.rows.specs.Filled.{room_for, table_after}
 use Rattle.desk.proofs.Reading.{place_spent, place_answer}
-use borrow.Author.Rules.{rules}
 use Rattle.desk.proofs.Desk.place.Goals as goal
 
 -- the answer is that of the message asked for
