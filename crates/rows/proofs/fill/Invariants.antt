@@ -1,19 +1,14 @@
 -- `rows::fill` meets its contract. The invariant: the lines left are still accepted, so that the next is right, and their rows, put from here on, give what all of them would have given.
 -- Assumes nothing.
 use Prim.Native.Nat.{ℕ, ◌+◌, ◌-◌, ◌*◌, ◌≤◌, ◌<◌}
-use mathlib.Core.Path.{◌≡◌, refl, sym, ◌∙◌}
-use mathlib.Core.Bool.{true, false}
-use native.Mathlib.Omega.{arith}
+use mathlib.Core.Path.{◌≡◌}
+use mathlib.Core.Bool.{true}
 use lib.Dec.{eqb}
 use lib.ListN.{length}
-use borrow.Author.Rules.{rules}
-use borrow.Author.Tests.{ne_eqb}
-use Rattle.step.specs.declared.Verdict.TheVariants.{Right}
 use Rattle.judge.specs.declared.Judged.TheVariants.{Accepted}
 use Rattle.judge.specs.Message.{texts, judge_texts, rows_from}
-use Rattle.judge.proofs.Laws.{left, sure_next, AtLine, walk_on, walk_end, judged-wrong, judged-right, not_both}
+use Rattle.judge.proofs.Laws.{left}
 use Rattle.tables.specs.Table.{put_rows}
-use Rattle.rows.proofs.Fills.{few, step_fits, fill_end, fill_turn, group_le}
 use Rattle.rows.proofs.fill.Given as goal
 
 abbrev pub invariant-loop-step : goal.invariant-loop-step

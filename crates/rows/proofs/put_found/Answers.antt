@@ -4,7 +4,6 @@ use mathlib.Core.Path.{refl, sym, ◌∙◌}
 use Rattle.tables.proofs.Tables.{put_table}
 use Rattle.rows.specs.Filled.{table_after}
 use Rattle.rows.proofs.Fills.{no_room, room_enough}
-use borrow.Author.Rules.{rules}
 use Rattle.rows.proofs.put_found.Goals as goal
 
 pub returns-then-table-rows : goal.returns-then-table-rows

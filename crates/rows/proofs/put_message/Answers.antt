@@ -6,7 +6,6 @@ use Rattle.judge.specs.declared.Sighted.TheVariants.{Right}
 use Rattle.judge.proofs.Laws.{found_rows}
 use Rattle.rows.specs.Filled.{room_for, table_after}
 use Rattle.rows.proofs.Fills.{found_fillable, found_count}
-use borrow.Author.Rules.{rules}
 use Rattle.rows.proofs.put_message.Goals as goal
 
 -- a message that is right is found where the judge says

@@ -1,13 +1,10 @@
 -- `rows::put_rows` meets its contract. The invariant: the rows left, put from here on, give what all of them would have given.
 -- Assumes nothing.
 use Prim.Native.Nat.{◌+◌, ◌-◌, ◌≤◌}
-use mathlib.Core.Path.{◌≡◌, refl, sym, ◌∙◌}
-use native.Mathlib.Omega.{arith}
-use lib.ListN.{length, take, drop, get_or, length-take, length-drop}
-use Rattle.lines.specs.Text.{no_span}
-use Rattle.judge.specs.Message.{feed_limit, rows_at}
+use mathlib.Core.Path.{◌≡◌}
+use lib.ListN.{length, take, drop}
+use Rattle.judge.specs.Message.{rows_at}
 use Rattle.tables.specs.Table.{put_rows}
-use Rattle.rows.proofs.Fills.{put_none, put_turn}
 use Rattle.rows.proofs.put_rows.Given as goal
 
 abbrev pub invariant-loop-i : goal.invariant-loop-i

@@ -1,7 +1,6 @@
 -- `desk::Desk::after` meets its contract: no rows after a refusal, the message's after an acceptance.
 -- Assumes nothing.
 use Rattle.desk.specs.Placing.{desk_after}
-use borrow.Author.Rules.{rules}
 use Rattle.desk.proofs.Desk.after.Goals as goal
 
 pub returns-in-Refused : goal.returns-in-Refused

@@ -2,7 +2,6 @@
 -- Assumes nothing.
 use mathlib.Core.Path.{sym, ◌∙◌}
 use Rattle.desk.proofs.Reading.{read_gone, read_none, read_row}
-use borrow.Author.Rules.{rules}
 use Rattle.desk.proofs.Desk.read.Goals as goal
 
 pub returns-then-ticket-self : goal.returns-then-ticket-self

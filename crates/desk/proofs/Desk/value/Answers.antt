@@ -5,7 +5,6 @@ use native.Mathlib.Omega.{arith}
 use native.Mathlib.Nat.{add-sub_cancel_left}
 use Rattle.desk.specs.Placing.{part_heard}
 use Rattle.desk.proofs.Reading.{spoken_within}
-use borrow.Author.Rules.{rules}
 use Rattle.desk.proofs.Desk.value.Goals as goal
 
 pub slice_bounds-result-end-in-Spoken : goal.slice_bounds-result-end-in-Spoken
