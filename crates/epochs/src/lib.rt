@@ -163,6 +163,7 @@ fn last_second(hour: u64, minute: u64, sixty: bool) -> u64
 }
 
 // Hours, minutes and seconds from a place on are those of a day.
+#[tactic(auto, unfolding(crate::specs::Epoch::is_clock))]
 fn is_clock(text: &[u8], at: usize, sixty: bool) -> bool
     requires { at < 50 }
     ensures { result ≡ is_clock text.now at sixty }

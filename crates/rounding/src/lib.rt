@@ -41,6 +41,7 @@ fn signed(minus: bool, size: u64) -> i64
 }
 
 // What is said of a size, rounded already.
+#[tactic(auto, unfolding(crate::specs::Say::said_of))]
 fn say_size(minus: bool, size: u64) -> Said
     ensures { result ≡ said_of minus size }
 {
@@ -67,6 +68,7 @@ fn raise(minus: bool, size: u64, places: u64) -> Said
 }
 
 // The size over ten to the places and one more, rounded: every place but the last is cut off, and the last decides.
+#[tactic(auto, using(crate::proofs::Rounds::half_down, crate::proofs::Rounds::half_up))]
 fn lower(minus: bool, size: u64, places: u64) -> Said
     ensures { result ≡ said_of minus (rounded size (10 ^ (places + 1))) }
 {
@@ -183,6 +185,7 @@ fn size_of(text: &[u8]) -> Size
 }
 
 // The decimals are checked before the text, and the text before the size.
+#[tactic(auto, using(crate::proofs::Laws::say_places, crate::proofs::Laws::say_value, crate::proofs::Laws::say_units, crate::proofs::Numbers::up_small))]
 pub fn say_number(text: &[u8], decimals: u32) -> Said
     ensures { result ≡ say_of text.now decimals }
 {

@@ -39,6 +39,7 @@ pub struct Step {
 }
 
 // The code of a META line, 0 where the text is none.
+#[tactic(auto, unfolding(crate::specs::Step::meta_code, words::specs::Words::bytes))]
 fn meta_code(form: Form, text: &[u8]) -> u16
     ensures { result ≡ meta_code form text.now }
 {
@@ -57,6 +58,7 @@ fn meta_code(form: Form, text: &[u8]) -> u16
 }
 
 // Each of the seven fields but the first is a number.
+#[tactic(auto, using(crate::proofs::Laws::numbers_end, crate::proofs::Laws::numbers_more, crate::proofs::Laws::numbers_stop))]
 fn are_numbers(spans: [Span; 7], text: &[u8]) -> bool
     requires { SevenInside spans text.now }
     ensures { result ≡ are_numbers (drop 1 spans) text.now }
@@ -192,6 +194,7 @@ impl State {
     }
 
     // A data line whose epoch has been read.
+    #[tactic(auto, unfolding(crate::specs::Step::data_at))]
     fn data_at(self, f: Fields, t: Instant, text: &[u8], sure: bool) -> Step
         requires seven_inside { SevenInside f.spans text.now }
         requires sure { Sure sure (data_at self f t text.now) }
@@ -218,6 +221,7 @@ impl State {
     }
 
     // A line of seven fields in an OEM.
+    #[tactic(auto, unfolding(crate::specs::Step::data_of))]
     fn data(self, f: Fields, text: &[u8], sure: bool) -> Step
         requires seven_inside { SevenInside f.spans text.now }
         requires sure { Sure sure (data_of self f text.now) }
@@ -237,6 +241,7 @@ impl State {
     }
 
     // A line that is no assignment: a data line in an OEM, or nothing that has a form.
+    #[tactic(auto, using(crate::proofs::Laws::fields_inside), unfolding(crate::specs::Step::fields_of))]
     fn fields(self, text: &[u8], sure: bool) -> Step
         requires { Sure sure (fields_of self text.now) }
         ensures { result ≡ fields_of self text.now }
@@ -282,6 +287,7 @@ impl State {
     }
 
     // A number, which ends at the first blank, and its unit.
+    #[tactic(auto, using(crate::proofs::Laws::trim_inside, crate::proofs::Laws::number_bad))]
     fn number(self, code: u16, p: Span, text: &[u8]) -> Step
         requires { Inside p text.now }
         ensures { result ≡ number_of self code p text.now }
@@ -339,6 +345,7 @@ impl State {
     }
 
     // An epoch.
+    #[tactic(auto, unfolding(crate::specs::Step::time_of))]
     fn time(self, code: u16, p: Span, text: &[u8]) -> Step
         requires { Inside p text.now }
         ensures { result ≡ time_of self code p text.now }
@@ -357,6 +364,7 @@ impl State {
     }
 
     // The value of an assignment that stands in its place.
+    #[tactic(auto, unfolding(crate::specs::Step::value_of))]
     fn value(self, code: u16, p: Span, text: &[u8]) -> Step
         requires { Inside p text.now }
         ensures { result ≡ value_of self code p text.now }
@@ -375,6 +383,7 @@ impl State {
     }
 
     // An assignment, its sides found.
+    #[tactic(auto, unfolding(crate::specs::Step::assign_of))]
     fn assign(self, x: Sides, text: &[u8]) -> Step
         requires { Inside x.keyword text.now × Inside x.value text.now }
         ensures { result ≡ assign_of self x text.now }
@@ -396,6 +405,7 @@ impl State {
     }
 
     // A META line, whose keyword ends at n.
+    #[tactic(auto, unfolding(crate::specs::Step::meta_of))]
     fn meta(self, code: u16, n: usize) -> Step
         ensures { result ≡ meta_of self code n }
     {
@@ -406,6 +416,7 @@ impl State {
     }
 
     // A line that is neither comment nor META line.
+    #[tactic(auto, using(crate::proofs::Laws::sides_inside), unfolding(crate::specs::Step::plain_of))]
     fn plain(self, text: &[u8], sure: bool) -> Step
         requires { Sure sure (plain_of self text.now) }
         ensures { result ≡ plain_of self text.now }
@@ -417,6 +428,7 @@ impl State {
     }
 
     // A comment that follows a data line is noted.
+    #[tactic(auto, unfolding(crate::specs::Step::past_comment))]
     fn past_comment(self) -> State
         ensures { result ≡ past_comment self }
     {
@@ -433,6 +445,7 @@ impl State {
     }
 
     // A line that is no comment; its trimmed part is t.
+    #[tactic(auto, unfolding(crate::specs::Step::uncommented_of))]
     fn uncommented(self, t: Span, text: &[u8], sure: bool) -> Step
         requires inside { Inside t text.now }
         requires sure { Sure sure (uncommented_of self t text.now) }
@@ -449,6 +462,7 @@ impl State {
     }
 
     // A line that is not blank; its trimmed part is t.
+    #[tactic(auto, unfolding(crate::specs::Step::filled_of))]
     fn filled(self, t: Span, text: &[u8], sure: bool) -> Step
         requires inside { Inside t text.now }
         requires sure { Sure sure (filled_of self t text.now) }
@@ -461,6 +475,7 @@ impl State {
     }
 
     // One line judged; where whoever asks is sure that it is right, only what its rows and the next state need is looked at again.
+    #[tactic(auto, using(crate::proofs::Laws::trim_inside, crate::proofs::Laws::step_right), unfolding(crate::specs::Step::step_of))]
     pub fn step(self, text: &[u8], sure: bool) -> Step
         requires { Sure sure (step_of self text.now) }
         ensures { result ≡ step_of self text.now }

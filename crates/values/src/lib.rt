@@ -7,6 +7,7 @@ ghost use Rattle.values.specs.Number.{digits, sign_len, is_digits, is_exponent, 
 use words::is_word;
 
 // The place of the first byte at or after `from` that is no digit, or the text's end.
+#[tactic(auto, using(words::proofs::Laws::walk_stop, words::proofs::Laws::walk_more, words::proofs::Laws::walk_end))]
 fn digits_end(text: &[u8], from: usize) -> usize
     ensures { result ≡ from + digits (drop from text.now) }
 {
@@ -32,6 +33,7 @@ pub fn digits_of(text: &[u8]) -> usize
 }
 
 // How many bytes the sign takes that stands first.
+#[tactic(auto, unfolding(crate::specs::Number::sign_len))]
 pub fn sign_of(text: &[u8]) -> usize
     ensures { result ≡ sign_len text.now }
 {
@@ -97,6 +99,7 @@ fn ends_number(text: &[u8], n: usize, m: usize) -> bool
 }
 
 // What stands after n digits.
+#[tactic(auto, using(crate::proofs::Laws::whole_some), unfolding(crate::specs::Number::after_whole))]
 fn after_whole(text: &[u8], n: usize) -> bool
     requires { n + length text.now < 2 ^ 64 }
     ensures { result ≡ after_whole n text.now }
