@@ -62,6 +62,7 @@ fn keyword_part(text: &[u8]) -> Span
 }
 
 // The value in its field: a number ends at the first blank.
+#[tactic(auto, unfolding(crate::specs::Parts::value_in))]
 fn value_in(kind: Kind, p: Span, text: &[u8]) -> Span
     requires { Inside p text.now }
     ensures { result ≡ value_in kind p text.now }
@@ -96,6 +97,7 @@ fn kind_in(form: Form, x: Sides, text: &[u8]) -> Kind
 }
 
 // The first of a data line's fields but the epoch that is no number, or the epoch.
+#[tactic(auto, using(crate::proofs::Laws::wrong_none, crate::proofs::Laws::wrong_later, crate::proofs::Laws::wrong_here))]
 fn first_wrong(spans: [Span; 7], text: &[u8]) -> Span
     requires { SevenInside spans text.now }
     ensures { result ≡ first_wrong (get_or spans 0 no_span) (drop 1 spans) text.now }

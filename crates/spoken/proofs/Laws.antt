@@ -111,8 +111,8 @@ words_long m v =
       frame_few m (bytes " seconds"),
     )
 
-pub words-few : (m : Manner) (v : List ℕ) → length v ≤ 254 → length (words_by m v) ≤ 4294967295
-words-few m v h = omega (arith, words_long m v, said-few m 0 v)
+pub words_few : (m : Manner) (v : List ℕ) → length v ≤ 254 → length (words_by m v) ≤ 4294967295
+words_few m v h = omega (arith, words_long m v, said-few m 0 v)
 
 -- ---- words, and a buffer that has room for them or has not
 

@@ -58,6 +58,7 @@ fn way_if(right: bool, manner: Manner) -> Way
     Way::Unsaid
 }
 
+#[tactic(auto, unfolding(crate::specs::Way::epoch_way, words::specs::Words::bytes))]
 fn epoch_way(value: &[u8]) -> Way
     ensures { result ≡ epoch_way value.now }
 {
@@ -72,6 +73,7 @@ fn epoch_way(value: &[u8]) -> Way
     }
 }
 
+#[tactic(auto, unfolding(crate::specs::Way::way_in))]
 fn way_in(kind: Kind, value: &[u8]) -> Way
     ensures { result ≡ way_in kind value.now }
 {
@@ -86,6 +88,7 @@ fn way_in(kind: Kind, value: &[u8]) -> Way
 }
 
 // How the value of a code is said, if it is right.
+#[tactic(auto, unfolding(crate::specs::Way::way_of, crate::specs::Way::way_in, grammar::specs::Rows::pick))]
 fn way_of(code: u32, value: &[u8]) -> Way
     ensures { result ≡ way_of code value.now }
 {
@@ -104,6 +107,7 @@ fn way_of(code: u32, value: &[u8]) -> Way
     way_in(grammar::kind_of(code as u16), value)
 }
 
+#[tactic(auto, unfolding(crate::specs::Saying::mark_at, grammar::specs::Rows::pick))]
 fn numeral_mark(byte: u8) -> Mark
     ensures { result ≡ mark_at Manner.Numeral 0 byte }
 {
@@ -115,6 +119,7 @@ fn numeral_mark(byte: u8) -> Mark
     }
 }
 
+#[tactic(auto, unfolding(crate::specs::Saying::mark_at, grammar::specs::Rows::pick))]
 fn calendar_mark(at: usize) -> Mark
     ensures { result ≡ mark_at Manner.Calendar at 0 }
 {
@@ -128,6 +133,7 @@ fn calendar_mark(at: usize) -> Mark
     }
 }
 
+#[tactic(auto, unfolding(crate::specs::Saying::mark_at, grammar::specs::Rows::pick))]
 fn ordinal_mark(at: usize) -> Mark
     ensures { result ≡ mark_at Manner.Ordinal at 0 }
 {
@@ -141,6 +147,7 @@ fn ordinal_mark(at: usize) -> Mark
 }
 
 // The mark that a byte is at its place.
+#[tactic(auto, unfolding(crate::specs::Saying::mark_at))]
 fn mark_at(manner: Manner, at: usize, byte: u8) -> Mark
     ensures { result ≡ mark_at manner at byte }
 {
@@ -153,6 +160,7 @@ fn mark_at(manner: Manner, at: usize, byte: u8) -> Mark
 }
 
 // A mark's words, or the byte itself.
+#[tactic(auto, unfolding(words::specs::Words::bytes))]
 fn put_mark(buffer: &mut [u8], n: usize, mark: Mark, itself: &[u8], writing: bool) -> usize
     requires { Room writing n (said_by mark itself.now) buffer.old }
     ensures answer { result ≡ n + length (said_by mark itself.now) }
@@ -172,6 +180,7 @@ fn put_mark(buffer: &mut [u8], n: usize, mark: Mark, itself: &[u8], writing: boo
 }
 
 // Words that an epoch alone has.
+#[tactic(auto, unfolding(ink::specs::Ink::inked))]
 fn put_framed(buffer: &mut [u8], n: usize, manner: Manner, frame: &[u8], writing: bool) -> usize
     requires { Room writing n (framed manner frame.now) buffer.old }
     ensures answer { result ≡ n + length (framed manner frame.now) }
@@ -202,6 +211,7 @@ fn put_words(buffer: &mut [u8], value: &[u8], manner: Manner, writing: bool) -> 
 }
 
 // A value that is right, measured first: nothing is written before it is known to fit.
+#[tactic(auto, using(crate::proofs::Laws::words_few, ink::proofs::Laws::put_whole), unfolding(crate::specs::Spoken::fitted, crate::specs::Spoken::buffer_after, ink::specs::Ink::inked))]
 fn say(buffer: &mut [u8], value: &[u8], manner: Manner) -> Spoken
     requires { length value.now ≤ 254 }
     ensures answer { result ≡ fitted (words_by manner value.now) (length buffer.old) }
@@ -216,6 +226,7 @@ fn say(buffer: &mut [u8], value: &[u8], manner: Manner) -> Spoken
 }
 
 // How the value of a code is said, written into the buffer where it is right and there is room.
+#[tactic(auto, using(crate::proofs::Laws::way_few), unfolding(crate::specs::Spoken::spoken_by, crate::specs::Spoken::words_in, crate::specs::Spoken::buffer_after))]
 pub fn in_words(code: u32, value: &[u8], buffer: &mut [u8]) -> Spoken
     ensures answer { result ≡ spoken_of code value.now (length buffer.old) }
     ensures buffer { buffer.new ≡ buffer_after result (words_of code value.now) buffer.old }

@@ -2,7 +2,6 @@
 -- Assumes nothing.
 use borrow.Author.Tests.{le-leb, lt-leb}
 use Rattle.step.specs.Step.{is_early}
-use borrow.Author.Rules.{rules}
 use Rattle.step.proofs.State.is_early.Goals as goal
 
 pub returns-then-code-lt39 : goal.returns-then-code-lt39

@@ -3,7 +3,6 @@
 use mathlib.Core.Path.{◌∙◌, sym}
 use borrow.Author.Tests.{eq-eqb, ne_eqb}
 use Rattle.step.specs.Step.{is_timely}
-use borrow.Author.Rules.{rules}
 use Rattle.step.proofs.State.is_timely.Goals as goal
 
 pub returns-then-is_before : goal.returns-then-is_before

@@ -4,7 +4,6 @@ use mathlib.Core.Path.{◌∙◌, sym}
 use borrow.Author.Tests.{eq-eqb, ne_eqb}
 use Rattle.words.specs.Words.{bytes}
 use Rattle.step.specs.Step.{past_whole}
-use borrow.Author.Rules.{rules}
 use Rattle.step.proofs.State.past_whole.Goals as goal
 
 pub returns-then-code-ne8 : goal.returns-then-code-ne8

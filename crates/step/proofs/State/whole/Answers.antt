@@ -1,9 +1,7 @@
 -- `step::State::whole` meets its contract.
 -- Assumes nothing.
 use mathlib.Core.Path.{◌∙◌}
-use borrow.Author.Tests.{not-true, not-false}
 use Rattle.step.specs.Step.{whole_of}
-use borrow.Author.Rules.{rules}
 use Rattle.step.proofs.State.whole.Goals as goal
 
 pub returns-then-not-right : goal.returns-then-not-right

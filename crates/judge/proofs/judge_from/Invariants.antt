@@ -1,0 +1,21 @@
+-- `judge::judge_from` meets its contract. The invariant: the lines left, judged from here, are judged as the whole was;
+-- each takes at least a byte and has at most seven rows, so that the counts fit.
+use Prim.Native.Nat.{◌+◌, ◌*◌, ◌-◌, ◌≤◌, ◌<◌}
+use mathlib.Core.Path.{◌≡◌, refl, sym, ◌∙◌}
+use mathlib.Core.Bool.{true, false}
+use native.Mathlib.Omega.{arith}
+use lib.Dec.{eqb}
+use lib.ListN.{length}
+use borrow.Author.Rules.{rules}
+use borrow.Author.Tests.{ne_eqb}
+use Rattle.step.proofs.Sound.{spans}
+use Rattle.step.specs.declared.Verdict.TheVariants.{Right}
+use Rattle.judge.specs.Message.{texts, judge_texts}
+use Rattle.judge.proofs.Laws.{left, unsure, walk_on, judged-end, judged-wrong, judged-right}
+use Rattle.judge.proofs.judge_from.Given as goal
+
+abbrev pub invariant-loop-r : goal.invariant-loop-r
+invariant-loop-r l = (judge_texts l.initial.state 1 0 (texts (left l.feed l.from true)) ≡ judge_texts l.state l.line l.rows (texts (left l.feed l.at (eqb l.line 1)))) × (1 ≤ l.line) × (l.line ≤ l.at + 1) × (l.rows ≤ 7 * l.line)
+
+abbrev pub decreases-loop-r : goal.decreases-loop-r
+decreases-loop-r l = length l.feed - l.at
