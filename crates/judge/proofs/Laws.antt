@@ -100,6 +100,19 @@ module _ (f : List ℕ) (at : ℕ) (e : Ends) (h : at < length f) (q : e ≡ end
   unfolding from_heading
   from_passed k r = rw (line_left f at e h q) (rw (r, from_heading))
 
+  -- the same of a count that has come to j, for the heading line with the number k
+  module _ (k j : ℕ) (i : from_heading k (lines f) ≡ from_heading j (lines_at at (drop at f))) where
+    pub found_now : is_heading (line_at f at e).text ≡ true → j ≡ 1 → (form : Form) → form ≡ form_of (line_at f at e).text
+        → Place at form ≡ found_of (from_heading k (lines f))
+    found_now r one form s = rw (s, i, from_here j r one) (sym found_here)
+
+    pub found_there : is_heading (line_at f at e).text ≡ true → j ≡ 1 → (form : Form) → form ≡ form_of (line_at f at e).text → FoundIs (Place at form) k f
+    unfolding FoundIs
+    found_there r one form s = (i ∙ from_here j r one, h, s ∙ ap form_of (text_left at (drop at f) e q))
+
+    pub found_later : is_heading (line_at f at e).text ≡ true → (j ≡ 1 → ⊥) → from_heading k (lines f) ≡ from_heading (j - 1) (rest f e)
+    found_later r more = i ∙ from_later j r more
+
   -- ---- the lines up to the next heading line
 
   pub up_stop : (first : Bool) → not first && is_heading (line_at f at e).text ≡ true → up_to first (lines_at at (drop at f)) ≡ []

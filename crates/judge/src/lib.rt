@@ -90,6 +90,7 @@ fn form_of(text: &[u8]) -> Form
 }
 
 // The place of the heading line with this number, from 1.
+#[tactic(auto, using(crate::proofs::Laws::found_now, crate::proofs::Laws::found_there, crate::proofs::Laws::found_later, lines::proofs::Lists::placed))]
 pub fn find_message(feed: &[u8], message: usize) -> Found
     ensures answer { result ≡ found_of (from_heading message (lines feed.now)) }
     ensures lines { FoundIs result message feed.now }

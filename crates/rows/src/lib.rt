@@ -13,6 +13,7 @@ use step::{State, Step};
 use tables::ROW_BYTES;
 
 // The group of a line's rows: a maneuver set's or a segment's first line begins the next one.
+#[tactic(auto, unfolding(judge::specs::Message::group_of))]
 fn group_after(form: Form, group: u32, code: u16) -> u32
     requires { group < feed_limit }
     ensures { result ≡ group_of form group code }

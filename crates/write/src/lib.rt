@@ -203,6 +203,7 @@ fn walk(buffer: &mut [u8], feed: &[u8], from: usize, form: Form, writing: bool) 
 }
 
 // A message that is right, measured first: nothing is written before it is known to fit.
+#[tactic(auto, using(crate::proofs::Fits::fitted_no, crate::proofs::Fits::fitted_whole, ink::proofs::Laws::put_whole), unfolding(crate::specs::Written::buffer_after, ink::specs::Ink::inked))]
 fn write_found(buffer: &mut [u8], feed: &[u8], from: usize, form: Form) -> Written
     requires { Writable feed.now from form }
     ensures answer { result ≡ fitted (plain_from feed.now from form) (length buffer.old) }

@@ -2,7 +2,6 @@
 -- Assumes nothing.
 use borrow.Author.Tests.{lt-ltb, le-ltb}
 use Rattle.judge.specs.Message.{count_of}
-use borrow.Author.Rules.{rules}
 use Rattle.judge.proofs.count_headings.Goals as goal
 
 pub returns-then-feed-gt-FEED_LIMIT : goal.returns-then-feed-gt-FEED_LIMIT

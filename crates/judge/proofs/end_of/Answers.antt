@@ -1,7 +1,6 @@
 -- `judge::end_of` meets its contract: what may follow the last line says whether the message may end.
 -- Assumes nothing.
 use Rattle.judge.specs.Message.{end_of}
-use borrow.Author.Rules.{rules}
 use Rattle.judge.proofs.end_of.Goals as goal
 
 pub returns-then-next_of : goal.returns-then-next_of

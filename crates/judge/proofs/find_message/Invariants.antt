@@ -1,13 +1,10 @@
 -- `judge::find_message` meets its contract. The invariant: the lines from the heading line sought are those from the one still to be counted.
 -- Assumes nothing.
 use Prim.Native.Nat.{◌-◌, ◌≤◌}
-use mathlib.Core.Path.{◌≡◌, refl, sym, ap, ◌∙◌}
-use native.Mathlib.Omega.{arith}
+use mathlib.Core.Path.{◌≡◌}
 use lib.ListN.{length, drop}
 use Rattle.lines.specs.Feed.{lines, lines_at}
-use Rattle.lines.proofs.Lists.{Placed, placed}
-use Rattle.judge.specs.Message.{from_heading, form_of, found_of, FoundIs}
-use Rattle.judge.proofs.Laws.{text_left, found_here, over_from, from_none, from_here, from_later, from_passed}
+use Rattle.judge.specs.Message.{from_heading}
 use Rattle.judge.proofs.find_message.Given as goal
 
 abbrev pub invariant-loop-at : goal.invariant-loop-at

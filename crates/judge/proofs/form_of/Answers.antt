@@ -2,7 +2,6 @@
 -- Assumes nothing.
 use mathlib.Core.Path.{sym, ap, ◌∙◌}
 use Rattle.judge.specs.Message.{opens}
-use borrow.Author.Rules.{rules}
 use Rattle.judge.proofs.form_of.Goals as goal
 
 pub returns-in-Opm : goal.returns-in-Opm

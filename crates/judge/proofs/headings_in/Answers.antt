@@ -1,12 +1,8 @@
 -- `judge::headings_in` meets its contract. The invariant: the headings counted and those from the place on make all of them.
 -- Assumes nothing.
-use Prim.Native.Nat.{◌+◌, ◌-◌, ◌≤◌}
-use mathlib.Core.Path.{◌≡◌, sym, ◌∙◌}
+use mathlib.Core.Path.{sym, ◌∙◌}
 use native.Mathlib.Omega.{arith}
-use lib.ListN.{length, drop}
-use Rattle.lines.specs.Feed.{lines, lines_at}
 use Rattle.lines.proofs.Lists.{Placed, placed}
-use Rattle.judge.specs.Message.{headings}
 use Rattle.judge.proofs.Laws.{over_headings, counted, passed}
 use Rattle.judge.proofs.headings_in.Goals as goal
 

@@ -2,7 +2,6 @@
 -- Assumes nothing.
 use mathlib.Core.Path.{sym, ap, ◌∙◌}
 use Rattle.judge.specs.Message.{is_one}
-use borrow.Author.Rules.{rules}
 use Rattle.judge.proofs.is_heading.Goals as goal
 
 pub returns-in-Opm : goal.returns-in-Opm

@@ -1,22 +1,17 @@
 -- `judge::judge_from` meets its contract. The invariant: the lines left, judged from here, are judged as the whole was;
 -- each takes at least a byte and has at most seven rows, so that the counts fit.
-use Prim.Native.Nat.{◌+◌, ◌*◌, ◌-◌, ◌≤◌, ◌<◌}
+-- Assumes nothing.
+use Prim.Native.Nat.{◌+◌, ◌≤◌, ◌<◌}
 use mathlib.Core.Path.{◌≡◌, refl, sym, ◌∙◌}
-use mathlib.Core.Bool.{true, false}
+use mathlib.Core.Bool.{false}
 use native.Mathlib.Omega.{arith}
 use lib.Dec.{eqb}
 use lib.ListN.{length}
-use borrow.Author.Rules.{rules}
 use borrow.Author.Tests.{ne_eqb}
 use Rattle.step.proofs.Sound.{spans}
 use Rattle.step.specs.declared.Verdict.TheVariants.{Right}
-use Rattle.judge.specs.Message.{texts, judge_texts}
-use Rattle.judge.proofs.Laws.{left, unsure, walk_on, judged-end, judged-wrong, judged-right}
+use Rattle.judge.proofs.Laws.{unsure, walk_on, judged-end, judged-wrong, judged-right}
 use Rattle.judge.proofs.judge_from.Goals as goal
-
--- Assumes nothing.
-
--- a line that is right takes at least a byte of the feed, and has few rows
 
 pub loop-r-init : goal.loop-r-init
 loop-r-init c = (refl, omega arith, omega arith, omega arith)
@@ -34,6 +29,7 @@ returns-in-Offence c = let l = c.loop-r in
     rw (← c.fresh-state.ensures)
     (sym (l.invariant.0 ∙ judged-wrong _ _ _ _ _ c.next_line-moved.ensures _ _ _ c.in-Offence.is))
 
+-- `step-on`: a line that is right takes at least a byte of the feed, and has few rows
 pub overflow_cast-rows : goal.overflow_cast-rows
 overflow_cast-rows c =
     let step-on : let m = c.next_line-moved.result in (c.loop-r.at < m.next) × (m.next ≤ length c.args.feed.now) × (m.step.count ≤ 7) = let w = walk_on _ _ _ _ _ c.next_line-moved.ensures Right c.in-Within.is in

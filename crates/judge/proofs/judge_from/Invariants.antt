@@ -1,17 +1,12 @@
 -- `judge::judge_from` meets its contract. The invariant: the lines left, judged from here, are judged as the whole was;
 -- each takes at least a byte and has at most seven rows, so that the counts fit.
-use Prim.Native.Nat.{◌+◌, ◌*◌, ◌-◌, ◌≤◌, ◌<◌}
-use mathlib.Core.Path.{◌≡◌, refl, sym, ◌∙◌}
-use mathlib.Core.Bool.{true, false}
-use native.Mathlib.Omega.{arith}
+use Prim.Native.Nat.{◌+◌, ◌*◌, ◌-◌, ◌≤◌}
+use mathlib.Core.Path.{◌≡◌}
+use mathlib.Core.Bool.{true}
 use lib.Dec.{eqb}
 use lib.ListN.{length}
-use borrow.Author.Rules.{rules}
-use borrow.Author.Tests.{ne_eqb}
-use Rattle.step.proofs.Sound.{spans}
-use Rattle.step.specs.declared.Verdict.TheVariants.{Right}
 use Rattle.judge.specs.Message.{texts, judge_texts}
-use Rattle.judge.proofs.Laws.{left, unsure, walk_on, judged-end, judged-wrong, judged-right}
+use Rattle.judge.proofs.Laws.{left}
 use Rattle.judge.proofs.judge_from.Given as goal
 
 abbrev pub invariant-loop-r : goal.invariant-loop-r

@@ -2,7 +2,6 @@
 -- Assumes nothing.
 use mathlib.Core.Path.{sym, ap}
 use Rattle.judge.specs.Message.{met_of}
-use borrow.Author.Rules.{rules}
 use Rattle.judge.proofs.met_by.Goals as goal
 
 pub returns-in-Wrong : goal.returns-in-Wrong

@@ -1,18 +1,14 @@
 -- `judge::next_line` meets its contract: the feed's end, the next heading line, or the line judged.
 -- Assumes nothing.
-use mathlib.Core.Path.{◌≡◌, sym, ap₂, ◌∙◌}
+use mathlib.Core.Path.{◌≡◌, sym, ◌∙◌}
 use mathlib.Core.List.{◌∷◌}
-use mathlib.Core.Logic.{⊎_elim}
-use mathlib.Core.Bool.{false, ◌&&◌}
+use mathlib.Core.Bool.{false}
 use native.Mathlib.Omega.{arith}
 use Rattle.lines.proofs.Lists.{Placed, placed}
 use Rattle.judge.specs.Message.{up_to, SureNext}
 use Rattle.judge.proofs.Laws.{line_at, rest, left, over_up, up_stop, up_more, moved-end, moved_more}
-use borrow.Author.Rules.{rules}
 use Rattle.judge.proofs.next_line.Goals as goal
 use Rattle.judge.proofs.next_line.Goals.{else-not-first, then-not-first+else-is_heading}
-
--- the message goes on with the line
 
 pub returns-then-feed-at : goal.returns-then-feed-at
 returns-then-feed-at c = c.over.ensures ∙ sym (moved-end _ _ _ _ (over_up _ _ c.if-feed-at.true _))
@@ -36,6 +32,7 @@ pub returns-then-is_heading : goal.returns-then-is_heading
 returns-then-is_heading c = c.over-then-is_heading.ensures ∙ sym (moved-end _ _ _ _ (up_stop _ _ _ c.if-feed-at.false c.line_at-ends.ensures _
     (rw c.if-not-first.true (sym c.is_heading.ensures ∙ c.if-is_heading.true))))
 
+-- `more`: the message goes on with the line
 pub step-step-requires : goal.step-step-requires
 unfolding SureNext
 step-step-requires c =

@@ -3,7 +3,6 @@
 use mathlib.Core.Path.{ap}
 use Rattle.judge.specs.declared.Met.TheVariants.{End}
 use Rattle.step.specs.declared.Step.{Step}
-use borrow.Author.Rules.{rules}
 use Rattle.judge.proofs.over.Goals as goal
 
 pub returns : goal.returns

@@ -4,16 +4,14 @@ use mathlib.Core.Path.{◌≡◌, sym, ◌∙◌}
 use Rattle.judge.specs.Message.{judge_of, FoundIs}
 use Rattle.judge.specs.declared.Found.TheVariants.{Place}
 use Rattle.judge.proofs.Laws.{judge_long, judge_missing, judge_found, sighted-wrong, sighted-right}
-use borrow.Author.Rules.{rules}
 use Rattle.judge.proofs.sight.Goals as goal
-
--- what is judged from the place where the message is found is its judgement
 
 pub returns-then-feed-gt-FEED_LIMIT : goal.returns-then-feed-gt-FEED_LIMIT
 returns-then-feed-gt-FEED_LIMIT c =
     let w = sighted-wrong c.args.feed.now c.args.message _ _ (judge_long _ _ c.if-feed-gt-FEED_LIMIT.true) in
     record { answer = w.0; judged = w.1 }
 
+-- `judged`: what is judged from the place where the message is found is its judgement
 pub returns-in-Accepted : goal.returns-in-Accepted
 returns-in-Accepted c =
     let judged : (judge_of c.args.feed.now c.args.message ≡ c.judge_from.result) × FoundIs (Place c.in-Place.at c.in-Place.form) c.args.message c.args.feed.now = let w = rw c.in-Place.is at c.find_message.ensures.lines in
