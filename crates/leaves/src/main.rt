@@ -4,186 +4,197 @@
 
 use epochs::Epoch;
 use grammar::{Form, Keyword, Kind, Next};
-use libc::{STDIN_FILENO, STDOUT_FILENO};
 use lines::{Assignment, Comment, Heading, Span};
+use std::io;
+use std::io::{BufWriter, Read, Write};
 
-fn say(text: &[u8]) {
-    io::write_all(STDOUT_FILENO, text);
+fn say(out: &mut impl Write, text: &[u8]) -> io::Result<()> {
+    out.write_all(text)
 }
 
-fn say_number(n: u64) {
-    say(b" ");
-    io::print_decimal(STDOUT_FILENO, n);
+fn say_number(out: &mut impl Write, n: u64) -> io::Result<()> {
+    write!(out, " {n}")
 }
 
-fn say_bool(answer: bool) {
+fn say_bool(out: &mut impl Write, answer: bool) -> io::Result<()> {
     if answer {
-        say(b" yes");
+        say(out, b" yes")
     } else {
-        say(b" no");
+        say(out, b" no")
     }
 }
 
-fn say_span(p: Span) {
-    say_number(p.from as u64);
-    say_number(p.to as u64);
+fn say_span(out: &mut impl Write, p: Span) -> io::Result<()> {
+    say_number(out, p.from as u64)?;
+    say_number(out, p.to as u64)
 }
 
-fn say_heading(text: &[u8]) {
+fn say_heading(out: &mut impl Write, text: &[u8]) -> io::Result<()> {
     match lines::heading_of(text) {
-        Heading::Opm => say(b" opm"),
-        Heading::Oem => say(b" oem"),
-        Heading::Nothing => say(b" none"),
+        Heading::Opm => say(out, b" opm"),
+        Heading::Oem => say(out, b" oem"),
+        Heading::Nothing => say(out, b" none"),
     }
 }
 
-fn say_comment(text: &[u8]) {
+fn say_comment(out: &mut impl Write, text: &[u8]) -> io::Result<()> {
     match lines::comment_of(text) {
-        Comment::Value(p) => say_span(p),
-        Comment::Other => say(b" none"),
+        Comment::Value(p) => say_span(out, p),
+        Comment::Other => say(out, b" none"),
     }
 }
 
-fn say_sides(text: &[u8]) {
+fn say_sides(out: &mut impl Write, text: &[u8]) -> io::Result<()> {
     let n = words::byte_at(text, 61);
-    say_number(n as u64);
+    say_number(out, n as u64)?;
     match lines::assignment_of(text) {
         Assignment::Parted(s) => {
-            say_span(s.keyword);
-            say_span(s.value);
+            say_span(out, s.keyword)?;
+            say_span(out, s.value)
         }
-        Assignment::Other => {}
+        Assignment::Other => Ok(()),
     }
 }
 
-fn say_fields(text: &[u8]) {
+fn say_fields(out: &mut impl Write, text: &[u8]) -> io::Result<()> {
     let f = lines::fields_of(text);
-    say_number(f.count as u64);
+    say_number(out, f.count as u64)?;
     let spans = f.spans;
     let mut i = 0;
     while i < 7 {
-        say_span(spans[i]);
+        say_span(out, spans[i])?;
         i += 1;
     }
+    Ok(())
 }
 
-fn say_epoch(text: &[u8], sixty: bool) {
+fn say_epoch(out: &mut impl Write, text: &[u8], sixty: bool) -> io::Result<()> {
     match epochs::epoch_of(text, sixty) {
         Epoch::At(t) => {
-            say_number(t.day);
-            say_number(t.second);
-            say_number(t.nano);
+            say_number(out, t.day)?;
+            say_number(out, t.second)?;
+            say_number(out, t.nano)
         }
-        Epoch::Bad => say(b" none"),
+        Epoch::Bad => say(out, b" none"),
     }
 }
 
-fn say_keyword(form: Form, text: &[u8]) {
+fn say_keyword(out: &mut impl Write, form: Form, text: &[u8]) -> io::Result<()> {
     match grammar::keyword_of(form, text) {
-        Keyword::Code(c) => say_number(c as u64),
-        Keyword::Unknown => say(b" none"),
+        Keyword::Code(c) => say_number(out, c as u64),
+        Keyword::Unknown => say(out, b" none"),
     }
 }
 
 // The codes that a unit may follow, out of all and a few beyond.
-fn say_unit(text: &[u8]) {
+fn say_unit(out: &mut impl Write, text: &[u8]) -> io::Result<()> {
     let mut code: u16 = 0;
     while code < 50 {
         if grammar::unit_right(code, text) {
-            say_number(code as u64);
+            say_number(out, code as u64)?;
         }
         code += 1;
     }
+    Ok(())
 }
 
-fn say_kind(kind: Kind) {
+fn say_kind(out: &mut impl Write, kind: Kind) -> io::Result<()> {
     match kind {
-        Kind::Version => say(b" version"),
-        Kind::Text => say(b" text"),
-        Kind::Integer => say(b" integer"),
-        Kind::Number => say(b" number"),
-        Kind::Epoch => say(b" epoch"),
-        Kind::Nothing => say(b" nothing"),
+        Kind::Version => say(out, b" version"),
+        Kind::Text => say(out, b" text"),
+        Kind::Integer => say(out, b" integer"),
+        Kind::Number => say(out, b" number"),
+        Kind::Epoch => say(out, b" epoch"),
+        Kind::Nothing => say(out, b" nothing"),
     }
 }
 
-fn say_allowed(next: Next) {
+fn say_allowed(out: &mut impl Write, next: Next) -> io::Result<()> {
     let mut code: u16 = 0;
     while code < 50 {
         if grammar::allows_code(next, code) {
-            say_number(code as u64);
+            say_number(out, code as u64)?;
         }
         code += 1;
     }
+    Ok(())
 }
 
-fn say_row(form: Form, last: u16) {
+fn say_row(out: &mut impl Write, form: Form, last: u16) -> io::Result<()> {
     let next = grammar::next_of(form, last);
-    say(b"\n");
-    say_number(last as u64);
-    say_kind(grammar::kind_of(last));
-    say(b":");
-    say_allowed(next);
+    say(out, b"\n")?;
+    say_number(out, last as u64)?;
+    say_kind(out, grammar::kind_of(last))?;
+    say(out, b":")?;
+    say_allowed(out, next)?;
     if next.end {
-        say(b" end");
+        say(out, b" end")?;
     }
+    Ok(())
 }
 
 // Each code with what may follow it in a message of this type.
-fn say_next(form: Form) {
+fn say_next(out: &mut impl Write, form: Form) -> io::Result<()> {
     let mut last: u16 = 0;
     while last < 50 {
-        say_row(form, last);
+        say_row(out, form, last)?;
         last += 1;
     }
+    Ok(())
 }
 
-fn say_answer(leaf: u8, text: &[u8]) {
+fn say_answer(out: &mut impl Write, leaf: u8, text: &[u8]) -> io::Result<()> {
     match leaf {
-        b'n' => say_bool(values::is_number(text)),
-        b'i' => say_bool(values::is_integer(text)),
-        b'e' => say_epoch(text, false),
-        b'E' => say_epoch(text, true),
-        b'v' => say_bool(values::is_version(text)),
-        b't' => say_span(lines::trim(text)),
-        b'o' => say_number(lines::odd_at(text) as u64),
-        b'h' => say_heading(text),
-        b'c' => say_comment(text),
-        b'a' => say_sides(text),
-        b'f' => say_fields(text),
-        b'k' => say_keyword(Form::Opm, text),
-        b'K' => say_keyword(Form::Oem, text),
-        b'u' => say_unit(text),
-        b'q' => say_next(Form::Opm),
-        b'Q' => say_next(Form::Oem),
-        _ => say(b" no such leaf"),
+        b'n' => say_bool(out, values::is_number(text)),
+        b'i' => say_bool(out, values::is_integer(text)),
+        b'e' => say_epoch(out, text, false),
+        b'E' => say_epoch(out, text, true),
+        b'v' => say_bool(out, values::is_version(text)),
+        b't' => say_span(out, lines::trim(text)),
+        b'o' => say_number(out, lines::odd_at(text) as u64),
+        b'h' => say_heading(out, text),
+        b'c' => say_comment(out, text),
+        b'a' => say_sides(out, text),
+        b'f' => say_fields(out, text),
+        b'k' => say_keyword(out, Form::Opm, text),
+        b'K' => say_keyword(out, Form::Oem, text),
+        b'u' => say_unit(out, text),
+        b'q' => say_next(out, Form::Opm),
+        b'Q' => say_next(out, Form::Oem),
+        _ => say(out, b" no such leaf"),
     }
 }
 
 // One line of the table: its place, its text between bars, and the answer.
-fn say_line(from: usize, text: &[u8]) {
-    io::print_decimal(STDOUT_FILENO, from as u64);
-    say(b" |");
-    say(text);
-    say(b"|");
+fn say_line(out: &mut impl Write, from: usize, text: &[u8]) -> io::Result<()> {
+    write!(out, "{from} |")?;
+    say(out, text)?;
+    say(out, b"|")?;
     if 2 <= text.len() {
-        say_answer(text[0], &text[2..]);
+        say_answer(out, text[0], &text[2..])?;
     }
-    say(b"\n");
+    say(out, b"\n")
 }
 
-fn say_lines(feed: &[u8]) {
+#[tactic(auto, using(lines::proofs::Lists::placed))]
+fn say_lines(out: &mut impl Write, feed: &[u8]) -> io::Result<()> {
     let mut at = 0;
     while at < feed.len() {
         let ends = lines::line_at(feed, at);
         let end = ends.end;
-        say_line(at, &feed[at..end]);
+        say_line(out, at, &feed[at..end])?;
         at = ends.next;
     }
+    Ok(())
 }
 
-fn main() {
-    let mut space = io::large_buffer();
-    let n = io::read_full(STDIN_FILENO, &mut space);
-    say_lines(&space[..n]);
+// What is read of standard input, at the most.
+const SPACE: u64 = 65536;
+
+fn main(rt: HostRuntime) -> io::Result<()> {
+    let mut feed = Vec::new(rt.alloc());
+    rt.reader().take(SPACE).read_to_end(&mut feed)?;
+    let mut out = BufWriter::new(rt.alloc(), io::writer(&rt))?;
+    say_lines(&mut out, &feed)?;
+    out.flush()
 }

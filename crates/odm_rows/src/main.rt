@@ -5,145 +5,153 @@ ghost use Rattle.std.specs.Prelude.{◌≡◌, length};
 
 use desk::{Desk, RowNumber, Ticket};
 use judge::{Counted, Judged};
-use libc::{STDIN_FILENO, STDOUT_FILENO};
 use reasons::Reason;
+use std::io;
+use std::io::{BufWriter, Read, Write};
 use tables::Heard;
 
-fn say(text: &[u8]) {
-    io::write_all(STDOUT_FILENO, text);
+fn say(out: &mut impl Write, text: &[u8]) -> io::Result<()> {
+    out.write_all(text)
 }
 
-fn say_number(n: u32) {
-    io::print_decimal(STDOUT_FILENO, n as u64);
+fn say_number(out: &mut impl Write, n: u32) -> io::Result<()> {
+    write!(out, "{n}")
 }
 
 // A number after a blank.
-fn say_next(n: u32) {
-    say(b" ");
-    say_number(n);
+fn say_next(out: &mut impl Write, n: u32) -> io::Result<()> {
+    say(out, b" ")?;
+    say_number(out, n)
 }
 
-fn say_reason(reason: Reason) {
+fn say_reason(out: &mut impl Write, reason: Reason) -> io::Result<()> {
     match reason {
-        Reason::FeedLong => say(b"FEED_LONG"),
-        Reason::NoMessage => say(b"NO_MESSAGE"),
-        Reason::Long => say(b"LONG"),
-        Reason::Byte => say(b"BYTE"),
-        Reason::Form => say(b"FORM"),
-        Reason::Keyword => say(b"KEYWORD"),
-        Reason::Order => say(b"ORDER"),
-        Reason::Value => say(b"VALUE"),
-        Reason::Unit => say(b"UNIT"),
-        Reason::TimeOrder => say(b"TIME_ORDER"),
-        Reason::Short => say(b"SHORT"),
-        Reason::NoRoom => say(b"NO_ROOM"),
-        Reason::Spent => say(b"SPENT"),
-        Reason::Gone => say(b"GONE"),
-        Reason::NoRow => say(b"NO_ROW"),
-        Reason::Astray => say(b"ASTRAY"),
-        Reason::TooBig => say(b"TOO_BIG"),
-        Reason::Places => say(b"PLACES"),
-        Reason::Wide => say(b"WIDE"),
+        Reason::FeedLong => say(out, b"FEED_LONG"),
+        Reason::NoMessage => say(out, b"NO_MESSAGE"),
+        Reason::Long => say(out, b"LONG"),
+        Reason::Byte => say(out, b"BYTE"),
+        Reason::Form => say(out, b"FORM"),
+        Reason::Keyword => say(out, b"KEYWORD"),
+        Reason::Order => say(out, b"ORDER"),
+        Reason::Value => say(out, b"VALUE"),
+        Reason::Unit => say(out, b"UNIT"),
+        Reason::TimeOrder => say(out, b"TIME_ORDER"),
+        Reason::Short => say(out, b"SHORT"),
+        Reason::NoRoom => say(out, b"NO_ROOM"),
+        Reason::Spent => say(out, b"SPENT"),
+        Reason::Gone => say(out, b"GONE"),
+        Reason::NoRow => say(out, b"NO_ROW"),
+        Reason::Astray => say(out, b"ASTRAY"),
+        Reason::TooBig => say(out, b"TOO_BIG"),
+        Reason::Places => say(out, b"PLACES"),
+        Reason::Wide => say(out, b"WIDE"),
     }
 }
 
-fn say_value(value: &[u8]) {
+fn say_value(out: &mut impl Write, value: &[u8]) -> io::Result<()> {
     if 0 < value.len() {
-        say(b" ");
-        say(value);
+        say(out, b" ")?;
+        say(out, value)?;
     }
+    Ok(())
 }
 
 // One row: its number, its five numbers, and its value's bytes.
-fn say_row(desk: Desk, n: u32, feed: &[u8], table: &[u8]) {
+fn say_row(out: &mut impl Write, desk: Desk, n: u32, feed: &[u8], table: &[u8]) -> io::Result<()> {
     let load = desk.load;
     let ticket = Ticket {
         load,
         row: RowNumber(n),
     };
-    say_number(n);
+    say_number(out, n)?;
     match desk.read(ticket, feed, table) {
         Heard::Spoken(row) => {
-            say_next(row.code);
-            say_next(row.group);
-            say_next(row.line);
-            say_next(row.start);
-            say_next(row.length);
-            say_value(desk.value(ticket, feed, table));
+            say_next(out, row.code)?;
+            say_next(out, row.group)?;
+            say_next(out, row.line)?;
+            say_next(out, row.start)?;
+            say_next(out, row.length)?;
+            say_value(out, desk.value(ticket, feed, table))?;
         }
         Heard::Silent(reason) => {
-            say(b" ");
-            say_reason(reason);
+            say(out, b" ")?;
+            say_reason(out, reason)?;
         }
     }
-    say(b"\n");
+    say(out, b"\n")
 }
 
-fn say_rows(desk: Desk, feed: &[u8], table: &[u8]) {
+fn say_rows(out: &mut impl Write, desk: Desk, feed: &[u8], table: &[u8]) -> io::Result<()> {
     let count = desk.count;
     let mut n = 0;
     while n < count {
-        say_row(desk, n, feed, table);
+        say_row(out, desk, n, feed, table)?;
         n += 1;
     }
+    Ok(())
 }
 
 // One message: what placing it answered, then its rows. The next desk comes back.
-fn say_message(desk: Desk, feed: &[u8], message: u32, table: &mut [u8]) -> Desk {
+fn say_message(
+    out: &mut impl Write,
+    desk: Desk,
+    feed: &[u8],
+    message: u32,
+    table: &mut [u8],
+) -> io::Result<Desk> {
     let placed = desk.place(feed, message as usize, table);
     let next = placed.desk;
     let answer = placed.answer;
-    say(b"message");
-    say_next(message);
+    say(out, b"message")?;
+    say_next(out, message)?;
     match answer {
         Judged::Accepted(rows) => {
-            say(b" accepted rows");
-            say_next(rows);
-            say(b"\n");
-            say_rows(next, feed, table);
+            say(out, b" accepted rows")?;
+            say_next(out, rows)?;
+            say(out, b"\n")?;
+            say_rows(out, next, feed, table)?;
         }
         Judged::Refused(reason, line) => {
-            say(b" refused ");
-            say_reason(reason);
-            say(b" line");
-            say_next(line);
-            say(b"\n");
+            say(out, b" refused ")?;
+            say_reason(out, reason)?;
+            say(out, b" line")?;
+            say_next(out, line)?;
+            say(out, b"\n")?;
         }
     }
-    next
+    Ok(next)
 }
 
-fn say_messages(feed: &[u8], count: u32, table: &mut [u8]) {
+fn say_messages(out: &mut impl Write, feed: &[u8], count: u32, table: &mut [u8]) -> io::Result<()> {
     let mut desk = Desk::fresh();
     let mut message: u32 = 0;
     while message < count {
         message += 1;
-        desk = say_message(desk, feed, message, table);
+        desk = say_message(out, desk, feed, message, table)?;
     }
+    Ok(())
 }
 
-fn say_refused(reason: Reason) {
-    say(b"refused ");
-    say_reason(reason);
-    say(b"\n");
+fn say_refused(out: &mut impl Write, reason: Reason) -> io::Result<()> {
+    say(out, b"refused ")?;
+    say_reason(out, reason)?;
+    say(out, b"\n")
 }
 
 // This program keeps the feed limit that it always had; the library's is wider.
 const FEED_LIMIT: usize = 65535;
 
-fn say_feed(feed: &[u8], table: &mut [u8]) {
+fn say_feed(out: &mut impl Write, feed: &[u8], table: &mut [u8]) -> io::Result<()> {
     if FEED_LIMIT < feed.len() {
-        say_refused(Reason::FeedLong);
-        return;
+        return say_refused(out, Reason::FeedLong);
     }
     match judge::count_headings(feed) {
-        Counted::Barred(reason) => say_refused(reason),
+        Counted::Barred(reason) => say_refused(out, reason),
         Counted::Headings(count) => {
             if count == 0 {
-                say_refused(Reason::NoMessage);
-                return;
+                return say_refused(out, Reason::NoMessage);
             }
-            say_messages(feed, count, table);
+            say_messages(out, feed, count, table)
         }
     }
 }
@@ -155,9 +163,14 @@ fn table_space() -> [u8; 320000]
     [0; 320000]
 }
 
-fn main() {
-    let mut space = io::large_buffer();
-    let n = io::read_full(STDIN_FILENO, &mut space);
+// What is read of standard input, at the most: a byte more than a feed may have.
+const SPACE: u64 = 65536;
+
+fn main(rt: HostRuntime) -> io::Result<()> {
+    let mut feed = Vec::new(rt.alloc());
+    rt.reader().take(SPACE).read_to_end(&mut feed)?;
     let mut table = table_space();
-    say_feed(&space[..n], &mut table);
+    let mut out = BufWriter::new(rt.alloc(), io::writer(&rt))?;
+    say_feed(&mut out, &feed, &mut table)?;
+    out.flush()
 }
