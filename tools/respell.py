@@ -81,8 +81,12 @@ STRING = re.compile(r'("(?:[^"\\\n]|\\.)*")')
 
 
 def spelling(path, text, says):
-    """What a word of this file is called: in a function's own proof a field and a goal keep the name that Rattle makes."""
+    """What a word of this file is called: in a function's own proof a field and a goal keep the name that Rattle makes; elsewhere a
+    lemma of the file that would have the name of a definition used there gets `_lem`."""
     own = set(declared(text)) if of_function(path) else set()
+    if path.endswith(".antt") and not of_function(path) and os.sep + "specs" + os.sep not in path:
+        made = {says[w] for w in set(WORD.findall(text)) if CAMEL.match(w) and w in says}
+        says = {**says, **{n: n + "_lem" for n in declared(text) if n in made and n not in says}}
 
     def word(m):
         w = m.group(0)
