@@ -1,5 +1,6 @@
 -- `explain::explain_from` meets its contract. The invariant: the lines left, explained from here, are explained as the whole was; each takes at least
 -- a byte and has at most seven rows, so that the counts fit.
+-- Assumes nothing.
 use Prim.Native.Nat.{◌+◌, ◌≤◌, ◌<◌}
 use mathlib.Core.Path.{◌≡◌, refl, sym, ◌∙◌}
 use mathlib.Core.Bool.{false}
@@ -13,12 +14,6 @@ use Rattle.step.specs.declared.Verdict.TheVariants.{Right, Wrong}
 use Rattle.judge.proofs.Laws.{unsure, walk_on}
 use Rattle.explain.proofs.Walk.{explained_end, explained_wrong, explained_right}
 use Rattle.explain.proofs.explain_from.Goals as goal
-
--- Assumes nothing.
-
--- a line that is right takes at least a byte of the feed, and has few rows
-
--- the line that offends lies in the feed
 
 pub loop-r-init : goal.loop-r-init
 loop-r-init c = (refl, omega arith, omega arith, omega arith, omega arith)

@@ -1,10 +1,9 @@
 -- `lines::end_len` meets its contract: the lengths decide how many bytes stand at the place.
+-- Assumes nothing.
 use native.Mathlib.Omega.{arith}
 use mathlib.Core.Path.{sym, ◌∙◌}
 use Rattle.lines.proofs.Laws.{end_none, end_alone, end_pair}
 use Rattle.lines.proofs.end_len.Goals as goal
-
--- Assumes nothing.
 
 pub returns-then-feed-at : goal.returns-then-feed-at
 returns-then-feed-at c = sym (end_none _ _ c.if-feed-at.true)

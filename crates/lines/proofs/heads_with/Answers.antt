@@ -1,4 +1,5 @@
 -- `lines::heads_with` meets its contract: the word after the blanks, then `=` after those behind it.
+-- Assumes nothing.
 use Rattle.words.specs.Words.{bytes}
 use lib.ListN.{drop, length-drop}
 use Rattle.words.proofs.Laws.{begins-le}
@@ -6,8 +7,6 @@ use mathlib.Core.Path.{sym, ◌∙◌}
 use native.Mathlib.Omega.{arith}
 use Rattle.lines.proofs.Laws.{heads_no, heads_yes}
 use Rattle.lines.proofs.heads_with.Goals as goal
-
--- Assumes nothing.
 
 pub returns-then-not-begins_at : goal.returns-then-not-begins_at
 returns-then-not-begins_at c = sym (heads_no _ _ _ c.blanks_end-at.ensures (sym c.begins_at.ensures ∙ c.if-not-begins_at.true))

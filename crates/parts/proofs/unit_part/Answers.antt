@@ -9,8 +9,6 @@ use Rattle.step.proofs.Laws.{word-le, trim_inside}
 use Rattle.parts.proofs.Laws.{sides_within, unit_found, unit_within}
 use Rattle.parts.proofs.unit_part.Goals as goal
 
--- the unit lies in the text
-
 pub slice_bounds-value-count : goal.slice_bounds-value-count
 slice_bounds-value-count c = (sides_within _ _ c.sides_in-x.ensures).1.order
 

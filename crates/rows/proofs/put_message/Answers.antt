@@ -8,8 +8,6 @@ use Rattle.rows.specs.Filled.{room_for, table_after}
 use Rattle.rows.proofs.Fills.{found_fillable, found_count}
 use Rattle.rows.proofs.put_message.Goals as goal
 
--- a message that is right is found where the judge says
-
 pub put_found-requires : goal.put_found-requires
 unfolding SightedIs
 put_found-requires c =

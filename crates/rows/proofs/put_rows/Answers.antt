@@ -13,8 +13,6 @@ loop-i-init c = let a = c.args in
     let v : a.step.code + 0 ≡ a.step.code = omega arith in
     (omega arith, refl, rw (u, v))
 
--- the span in hand lies in the feed
-
 pub overflow_add-row-in-loop-i : goal.overflow_add-row-in-loop-i
 overflow_add-row-in-loop-i c = omega (arith, c.requires.order c.loop-i.i, c.requires.end c.loop-i.i)
 

@@ -8,8 +8,6 @@ use lib.ListN.{length}
 use Rattle.tables.proofs.Copies.{wide_here, wide_on, wide_none}
 use Rattle.tables.proofs.any_wide.Goals as goal
 
--- the whole entries' bytes are the table's
-
 pub overflow_mul-end : goal.overflow_mul-end
 overflow_mul-end c = omega (arith, mul-div-le (length c.args.table.now) 4)
 
