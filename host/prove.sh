@@ -66,7 +66,7 @@ prove() { # the kit proves the crates below by itself, and leaves what it builds
       (cd crates/odm && rt lib) || return
       cp crates/odm/out/libodm.a target/staticlib/ || return
     else
-      (cd "crates/$name" && rt run) || return
+      (cd "crates/$name" && rt run <stdin) || return # it is run once, on its stored input
       cp "crates/$name/out/$name" target/bin/ || return
     fi
   done

@@ -93,6 +93,7 @@ impl Desk {
     }
 
     // What a ticket hears.
+    #[tactic(auto, unfolding(crate::specs::Placing::read_of))]
     pub fn read(self, ticket: Ticket, feed: &[u8], table: &[u8]) -> Heard
         ensures { result ≡ read_of self ticket feed.now table.now }
     {

@@ -31,6 +31,7 @@ pub struct Explained {
 }
 
 // A line of this code can begin in a message of this type; no comment and no heading.
+#[tactic(auto, unfolding(crate::specs::Codes::can_begin, grammar::specs::Rows::pick))]
 fn can_begin(form: Form, code: u16) -> bool
     ensures { result ≡ can_begin form code }
 {
@@ -101,6 +102,7 @@ fn codes_of(state: State) -> Codes
 }
 
 // The codes beside a reason of a line: for ORDER alone.
+#[tactic(auto, unfolding(crate::specs::Codes::codes_for))]
 fn codes_for(state: State, reason: Reason) -> Codes
     ensures { result ≡ codes_for state reason }
 {

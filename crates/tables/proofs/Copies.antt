@@ -74,6 +74,10 @@ module _ (u : List ℕ) (i k : ℕ) where
   unfolding some_wide
   wide_here h e = let q : k - i ≡ suc (k - (i + 1)) = omega arith in rw q (rw (lt-ltb _ _ e, some_wide))
 
+  -- the same of an entry as it was read
+  pub wide_seen : (v : ℕ) → v ≡ entry_at host_width u i → 65535 < v → i < k → some_wide u i (k - i) ≡ true
+  wide_seen v e w h = wide_here h (rw e at w)
+
   pub wide_on : i < k → entry_at host_width u i ≤ 65535 → some_wide u i (k - i) ≡ some_wide u (i + 1) (k - (i + 1))
   unfolding some_wide
   wide_on h e = let q : k - i ≡ suc (k - (i + 1)) = omega arith in rw q (rw (le-ltb _ _ e, some_wide))

@@ -126,6 +126,7 @@ fn same_entries(narrow_bytes: usize, wide_bytes: usize) -> bool
 }
 
 // Whether an entry does not fit two bytes; each is looked at, in a row or not.
+#[tactic(auto, using(crate::proofs::Copies::wide_seen))]
 fn any_wide(table: &[u8]) -> bool
     ensures { result ≡ some_wide table.now 0 (entries_in host_width table.now) }
 {

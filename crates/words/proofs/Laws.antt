@@ -119,6 +119,10 @@ module _ (p : ℕ → Bool) (s : List ℕ) (from : ℕ) where
     pub blocks_end : length s < i + 16 → i ≡ from + blocks_of (run p (drop from s))
     blocks_end h = blocks_over (omega (arith, run-le p (drop i s), length-drop i s))
 
+-- a block, as it was looked at, has a byte that doesn't pass
+pub run_few : (p : ℕ → Bool) (s : List ℕ) (i : ℕ) (t : Bool) → t ≡ every p (take (i + 16 - i) (drop i s)) → t ≡ false → run p (drop i s) < 16
+run_few p s i t e f = let n : i + 16 - i ≡ 16 = omega arith in run-some p (drop i s) 16 (rw n at (sym e ∙ f))
+
 -- who passes the first test passes the second: so the second run may begin behind the first one's blocks
 pub run_skip : (p q : ℕ → Bool) → ((b : ℕ) → p b ≡ true → q b ≡ true) → (s : List ℕ) (n : ℕ) → n ≤ run p s → run q s ≡ n + run q (drop n s)
 unfolding run

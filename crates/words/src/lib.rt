@@ -32,6 +32,7 @@ pub fn begins_at(text: &[u8], at: usize, word: &[u8]) -> bool
 }
 
 // The text is the word.
+#[tactic(auto, unfolding(crate::specs::Words::is_word))]
 pub fn is_word(text: &[u8], word: &[u8]) -> bool
     ensures { result ≡ is_word word.now text.now }
 {
@@ -60,6 +61,7 @@ fn is_without(block: &[u8], byte: u8) -> bool
 }
 
 // The start of the first block that has the byte, or of what is no whole block.
+#[tactic(auto, using(crate::proofs::Laws::run_few))]
 fn blocks_without(text: &[u8], byte: u8) -> usize
     ensures { result ≡ blocks_of (first_at byte text.now) }
 {
@@ -78,6 +80,7 @@ fn blocks_without(text: &[u8], byte: u8) -> usize
 }
 
 // The first place of the byte at or after `from`, or the text's end: for a place that is near, byte by byte.
+#[tactic(auto, using(crate::proofs::Laws::walk_stop, crate::proofs::Laws::walk_more, crate::proofs::Laws::walk_end))]
 pub fn byte_from(text: &[u8], from: usize, byte: u8) -> usize
     ensures { result ≡ from + first_at byte (drop from text.now) }
 {

@@ -5,7 +5,7 @@ use mathlib.Core.Path.{◌≡◌, sym, ◌∙◌}
 use native.Mathlib.Nat.{mul-div-le}
 use native.Mathlib.Omega.{arith}
 use lib.ListN.{length}
-use Rattle.tables.proofs.Copies.{wide_here, wide_on, wide_none}
+use Rattle.tables.proofs.Copies.{wide_on, wide_none}
 use Rattle.tables.proofs.any_wide.Goals as goal
 
 pub overflow_mul-end : goal.overflow_mul-end
@@ -24,11 +24,6 @@ get_entry-requires c =
     let few : let n = length c.args.table.now in 4 * (n / 4) ≤ n = mul-div-le _ 4 in
     omega (arith, few)
 
-pub returns-then-get_entry-gt65535 : goal.returns-then-get_entry-gt65535
-returns-then-get_entry-gt65535 c =
-    let few : let n = length c.args.table.now in 4 * (n / 4) ≤ n = mul-div-le _ 4 in
-    sym (c.loop-i.invariant.1 ∙ wide_here _ _ _ (omega (arith, few)) (rw c.get_entry.ensures at c.if-get_entry-gt65535.true))
-
 pub overflow_add-i : goal.overflow_add-i
 overflow_add-i c =
     let few : let n = length c.args.table.now in 4 * (n / 4) ≤ n = mul-div-le _ 4 in
@@ -42,7 +37,7 @@ loop-i-smaller c =
 pub loop-i-preserved : goal.loop-i-preserved
 loop-i-preserved c =
     let few : let n = length c.args.table.now in 4 * (n / 4) ≤ n = mul-div-le _ 4 in
-    (omega (arith, few), c.loop-i.invariant.1 ∙ wide_on _ _ _ (omega (arith, few)) (rw c.get_entry.ensures at c.if-get_entry-gt65535.false))
+    (omega (arith, few), c.loop-i.invariant.1 ∙ wide_on _ _ _ (omega (arith, few)) (omega (arith, c.get_entry.ensures)))
 
 pub returns : goal.returns
 returns c = sym (c.loop-i.invariant.1 ∙ wide_none _ _ _ (omega arith))
