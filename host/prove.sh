@@ -1,7 +1,7 @@
 #!/usr/bin/env bash
 # Proves and builds programs (host/prove.sh odm_rows) or the archive for C (host/prove.sh odm), or both, and lets the wait be heard: how long it takes about,
 # and a line for each crate as it is proved. All of it goes to standard error, so that a program's own lines stand alone. Where no file changed since the
-# last time, nothing is done and nothing said. The verdict is `make test`, which starts from nothing.
+# last time, nothing is done and nothing said. The verdict is `make test`.
 set -eu -o pipefail
 cd "$(dirname "$0")/.."
 names=("$@")
