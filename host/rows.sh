@@ -1,6 +1,6 @@
 #!/usr/bin/env bash
-# The thin program on a feed: host/rows.sh FEED. It is proved and built first where it is not yet. On another processor than x86-64 the kit's own emulator
-# runs it.
+# The thin program on a feed: host/rows.sh FEED. It is proved and built first where it is not yet. On another processor than x86-64 Debian's emulator
+# runs it, which today's kit gives no occasion to try: it proves and builds on x86-64 alone.
 set -eu
 cd "$(dirname "$0")/.."
 if [ $# -ne 1 ] || ! [ -r "$1" ]; then

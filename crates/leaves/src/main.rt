@@ -2,11 +2,13 @@
 // Each line is written back with its place and its answer, so that the stored output reads as a table.
 #![tactic(auto)]
 
+ghost use Rattle.std.specs.Prelude.{◌≤◌, length, IfOk};
+
 use epochs::Epoch;
 use grammar::{Form, Keyword, Kind, Next};
 use lines::{Assignment, Comment, Heading, Span};
 use std::io;
-use std::io::{BufWriter, Read, Write};
+use std::io::{Read, Write};
 
 fn say(out: &mut impl Write, text: &[u8]) -> io::Result<()> {
     out.write_all(text)
@@ -189,12 +191,26 @@ fn say_lines(out: &mut impl Write, feed: &[u8]) -> io::Result<()> {
 }
 
 // What is read of standard input, at the most.
-const SPACE: u64 = 65536;
+const SPACE: usize = 65536;
+
+// Fills the space until it is full or the input ends, and answers how many bytes are there.
+fn read_full(reader: &mut impl Read, space: &mut [u8]) -> io::Result<usize>
+    ensures { IfOk result (λ n. n ≤ length space.new) }
+{
+    let mut done = 0;
+    while done < space.len() {
+        let n = reader.read(&mut space[done..])?;
+        if n == 0 {
+            return Ok(done);
+        }
+        done += n;
+    }
+    Ok(done)
+}
 
 fn main(rt: HostRuntime) -> io::Result<()> {
-    let mut feed = Vec::new(rt.alloc());
-    rt.reader().take(SPACE).read_to_end(&mut feed)?;
-    let mut out = BufWriter::new(rt.alloc(), io::writer(&rt))?;
-    say_lines(&mut out, &feed)?;
-    out.flush()
+    let mut space = [0; SPACE];
+    let n = read_full(&mut rt.reader(), &mut space)?;
+    let mut out = io::writer(&rt);
+    say_lines(&mut out, &space[..n])
 }

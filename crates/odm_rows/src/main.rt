@@ -1,13 +1,13 @@
 // Reads a feed from standard input and prints its messages' rows, in plain words, one fact a line.
 #![tactic(auto)]
 
-ghost use Rattle.std.specs.Prelude.{◌≡◌, length};
+ghost use Rattle.std.specs.Prelude.{◌≡◌, ◌≤◌, length, IfOk};
 
 use desk::{Desk, RowNumber, Ticket};
 use judge::{Counted, Judged};
 use reasons::Reason;
 use std::io;
-use std::io::{BufWriter, Read, Write};
+use std::io::{Read, Write};
 use tables::Heard;
 
 fn say(out: &mut impl Write, text: &[u8]) -> io::Result<()> {
@@ -164,13 +164,27 @@ fn table_space() -> [u8; 320000]
 }
 
 // What is read of standard input, at the most: a byte more than a feed may have.
-const SPACE: u64 = 65536;
+const SPACE: usize = 65536;
+
+// Fills the space until it is full or the input ends, and answers how many bytes are there.
+fn read_full(reader: &mut impl Read, space: &mut [u8]) -> io::Result<usize>
+    ensures { IfOk result (λ n. n ≤ length space.new) }
+{
+    let mut done = 0;
+    while done < space.len() {
+        let n = reader.read(&mut space[done..])?;
+        if n == 0 {
+            return Ok(done);
+        }
+        done += n;
+    }
+    Ok(done)
+}
 
 fn main(rt: HostRuntime) -> io::Result<()> {
-    let mut feed = Vec::new(rt.alloc());
-    rt.reader().take(SPACE).read_to_end(&mut feed)?;
+    let mut space = [0; SPACE];
+    let n = read_full(&mut rt.reader(), &mut space)?;
     let mut table = table_space();
-    let mut out = BufWriter::new(rt.alloc(), io::writer(&rt))?;
-    say_feed(&mut out, &feed, &mut table)?;
-    out.flush()
+    let mut out = io::writer(&rt);
+    say_feed(&mut out, &space[..n], &mut table)
 }
