@@ -14,13 +14,6 @@ pub struct Instant {
     pub nano: u64,
 }
 
-// The instant that an epoch names, or no epoch.
-#[derive(Clone, Copy)]
-pub enum Epoch {
-    At(Instant),
-    Bad,
-}
-
 // A shape's `0` stands for any digit.
 fn fits_shape(p: u8, b: u8) -> bool
     ensures { result ≡ fits p b }
@@ -218,35 +211,35 @@ fn year_at(text: &[u8]) -> u64
 }
 
 // The instant of a day of the year, with the clock from a place on.
-fn timed(text: &[u8], day: u64, at: usize, sixty: bool) -> Epoch
+fn timed(text: &[u8], day: u64, at: usize, sixty: bool) -> Option<Instant>
     requires { (day ≤ 366) × (at < 40) }
     ensures { result ≡ timed_of text.now day at sixty }
 {
     let year = year_at(text);
     if year < 1 {
-        return Epoch::Bad;
+        return None;
     }
     if day < 1 {
-        return Epoch::Bad;
+        return None;
     }
     if !is_clock(text, at, sixty) {
-        return Epoch::Bad;
+        return None;
     }
     if !is_fraction(text, at + 8) {
-        return Epoch::Bad;
+        return None;
     }
     let date = year * 1000 + day;
     let second = second_at(text, at);
     let nano = nano_at(text, at + 9);
-    Epoch::At(Instant {
+    Some(Instant {
         day: date,
         second,
         nano,
     })
 }
 
-// Whoever has an epoch read says whether second 60 may stand.
-pub fn epoch_of(text: &[u8], sixty: bool) -> Epoch
+// The instant that an epoch names; whoever has one read says whether second 60 may stand.
+pub fn epoch_of(text: &[u8], sixty: bool) -> Option<Instant>
     ensures { result ≡ epoch_of text.now sixty }
 {
     if has_shape(text, b"0000-00-00T00:00:00") {
@@ -260,7 +253,7 @@ pub fn epoch_of(text: &[u8], sixty: bool) -> Epoch
         );
         return timed(text, day, 9, sixty);
     }
-    Epoch::Bad
+    None
 }
 
 // The first instant is before the second.

@@ -16,10 +16,9 @@ use Rattle.words.proofs.Laws.{run-le, part_from}
 use Rattle.lines.specs.Feed.{is_end, joins, text_len, end_with, end_len, line_len, ends_of}
 use Rattle.lines.specs.Text.{is_blank, blanks, cut_end, trim_of, moved, heading_of, heads, comment_of, word_ends, fields_from, field_then, field_more, gathered}
 use Rattle.lines.specs.declared.Ends.{Ends}
-use Rattle.lines.specs.declared.Heading.TheVariants.{Nothing}
-use Rattle.lines.specs.declared.Comment.TheVariants.{Value, Other}
 use Rattle.lines.specs.declared.Span.{Span}
 use Rattle.lines.specs.declared.Fields.{Fields}
+use Rattle.std.specs.Prelude.{Some, None}
 
 -- ---- the ending at a place
 
@@ -215,7 +214,7 @@ begins_first b w (a ∷ s) e = go (eqb a b) e
     go false q = refl
 
 module _ (s : List ℕ) (at : ℕ) (p : at ≡ 0 + blanks s) where
-  pub no_heading : begins (bytes "C") (drop at s) ≡ false → heading_of s ≡ Nothing
+  pub no_heading : begins (bytes "C") (drop at s) ≡ false → heading_of s ≡ None
   unfolding bytes heading_of
   no_heading e =
       let o : heads (bytes "CCSDS_OPM_VERS") s ≡ false = heads_no _ s at p (begins_first _ _ _ e) in
@@ -225,16 +224,16 @@ module _ (s : List ℕ) (at : ℕ) (p : at ≡ 0 + blanks s) where
   here : blanks s ≡ at
   here = omega arith
 
-  pub comment_other : begins (bytes "COMMENT") (drop at s) ≡ false → comment_of s ≡ Other
+  pub comment_other : begins (bytes "COMMENT") (drop at s) ≡ false → comment_of s ≡ None
   unfolding comment_of
   comment_other e = rw (here, comment_of) (rw e)
 
-  pub comment_longer : begins (bytes "COMMENT") (drop at s) ≡ true → word_ends (drop (at + 7) s) ≡ false → comment_of s ≡ Other
+  pub comment_longer : begins (bytes "COMMENT") (drop at s) ≡ true → word_ends (drop (at + 7) s) ≡ false → comment_of s ≡ None
   unfolding comment_of
   comment_longer e q = rw (here, comment_of) (rw (e, q))
 
   pub comment_value : begins (bytes "COMMENT") (drop at s) ≡ true → word_ends (drop (at + 7) s) ≡ true
-      → comment_of s ≡ Value (moved (at + 7) (trim_of (drop (at + 7) s)))
+      → comment_of s ≡ Some (moved (at + 7) (trim_of (drop (at + 7) s)))
   unfolding comment_of
   comment_value e q = rw (here, comment_of) (rw (e, q) (rw here))
 

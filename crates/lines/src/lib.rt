@@ -9,49 +9,35 @@ ghost use Rattle.lines.specs.Text.{blanks, cut_end, trim_of, is_odd, odd_at, mov
 use words::{BLOCK, begins_at, byte_at, byte_from};
 
 // A part of a text: from one place up to another.
-#[derive(Clone, Copy)]
+#[derive(Clone, Copy, Debug, PartialEq, Eq)]
 pub struct Span {
     pub from: usize,
     pub to: usize,
 }
 
 // Where a line's text ends, and where the next line starts.
-#[derive(Clone, Copy)]
+#[derive(Clone, Copy, Debug, PartialEq, Eq)]
 pub struct Ends {
     pub end: usize,
     pub next: usize,
 }
 
-#[derive(Clone, Copy)]
-pub enum Heading {
+// The two types of message, each by the heading that opens it.
+#[derive(Clone, Copy, Debug, PartialEq, Eq)]
+pub enum Form {
     Opm,
     Oem,
-    Nothing,
-}
-
-// A comment with its value's place, or no comment.
-#[derive(Clone, Copy)]
-pub enum Comment {
-    Value(Span),
-    Other,
 }
 
 // An assignment's keyword and value field, both trimmed.
-#[derive(Clone, Copy)]
+#[derive(Clone, Copy, Debug, PartialEq, Eq)]
 pub struct Sides {
     pub keyword: Span,
     pub value: Span,
 }
 
-// An assignment with its two sides, or a text with no `=`.
-#[derive(Clone, Copy)]
-pub enum Assignment {
-    Parted(Sides),
-    Other,
-}
-
 // The first seven fields, and how many there are: 8 stands for more than seven.
-#[derive(Clone, Copy)]
+#[derive(Clone, Copy, Debug, PartialEq, Eq)]
 pub struct Fields {
     pub count: usize,
     pub spans: [Span; 7],
@@ -227,20 +213,20 @@ fn heads_with(text: &[u8], word: &[u8]) -> bool
     begins_at(text, equals, b"=")
 }
 
-// Whether the line is a heading, and of which message.
-pub fn heading_of(text: &[u8]) -> Heading
+// The type of message that a heading line opens, where the line is one.
+pub fn heading_of(text: &[u8]) -> Option<Form>
     ensures { result ≡ heading_of text.now }
 {
     if !begins_at(text, blanks_end(text, 0), b"C") {
-        return Heading::Nothing; // as nearly every line does
+        return None; // as nearly every line does
     }
     if heads_with(text, b"CCSDS_OPM_VERS") {
-        return Heading::Opm;
+        return Some(Form::Opm);
     }
     if heads_with(text, b"CCSDS_OEM_VERS") {
-        return Heading::Oem;
+        return Some(Form::Oem);
     }
-    Heading::Nothing
+    None
 }
 
 // A blank or the end of the text stands at `at`.
@@ -265,19 +251,19 @@ fn trim_from(text: &[u8], n: usize) -> Span
     }
 }
 
-pub fn comment_of(text: &[u8]) -> Comment
+// The place of a comment's value, where the line is a comment.
+pub fn comment_of(text: &[u8]) -> Option<Span>
     ensures { result ≡ comment_of text.now }
 {
     let at = blanks_end(text, 0);
     if !begins_at(text, at, b"COMMENT") {
-        return Comment::Other;
+        return None;
     }
     let n = at + 7;
     if !word_ends(text, n) {
-        return Comment::Other;
+        return None;
     }
-    let value = trim_from(text, n);
-    Comment::Value(value)
+    Some(trim_from(text, n))
 }
 
 // The two sides of the `=` at `n`.
@@ -290,16 +276,15 @@ fn sides_of(text: &[u8], n: usize) -> Sides
     Sides { keyword, value }
 }
 
-// A text parted at its first `=`.
-pub fn assignment_of(text: &[u8]) -> Assignment
+// A text parted at its first `=`, where it has one.
+pub fn assignment_of(text: &[u8]) -> Option<Sides>
     ensures { result ≡ assignment_of text.now }
 {
-    let n = byte_at(text, 61);
+    let n = byte_at(text, b'=');
     if n < text.len() {
-        let sides = sides_of(text, n);
-        return Assignment::Parted(sides);
+        return Some(sides_of(text, n));
     }
-    Assignment::Other
+    None
 }
 
 // The fields of a text, parted by runs of blanks.
