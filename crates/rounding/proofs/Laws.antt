@@ -16,7 +16,7 @@ use Rattle.values.specs.Number.{unsigned, is_number, digits_from}
 use Rattle.rounding.specs.Exact.{is_minus, size_by, numerator, denominator}
 use Rattle.rounding.specs.Say.{rounded, signed, size_limit, said_of, say_of}
 use Rattle.rounding.specs.declared.Size.{Size}
-use Rattle.rounding.specs.declared.Said.TheVariants.{Units, Refused}
+use Rattle.std.specs.Prelude.{Ok, Err}
 
 -- ---- the sign
 
@@ -50,11 +50,11 @@ module _ (u : ℕ) (h : u < 2 ^ 63) where
 -- ---- the limit
 
 module _ (minus : Bool) (u : ℕ) where
-  pub said_big : size_limit < u → said_of minus u ≡ Refused Reasons.TooBig
+  pub said_big : size_limit < u → said_of minus u ≡ Err Reasons.TooBig
   unfolding said_of
   said_big h = rw (lt-ltb size_limit u h, said_of)
 
-  pub said_small : u ≤ size_limit → said_of minus u ≡ Units (signed minus u)
+  pub said_small : u ≤ size_limit → said_of minus u ≡ Ok (signed minus u)
   unfolding said_of
   said_small h = rw (le-ltb size_limit u h, said_of)
 
@@ -79,12 +79,12 @@ same_size {v} {w} {m} {n} {e} {f} a b c = ap (λ (x : ℕ). size_by x m e) a ∙
 -- ---- the checks, in their order
 
 module _ (s : List ℕ) (decimals : ℕ) where
-  pub say_places : 6 < decimals → say_of s decimals ≡ Refused Reasons.Places
+  pub say_places : 6 < decimals → say_of s decimals ≡ Err Reasons.Places
   unfolding say_of
   say_places h = rw (lt-ltb 6 decimals h, say_of)
 
   module _ (h : decimals ≤ 6) where
-    pub say_value : is_number s ≡ false → say_of s decimals ≡ Refused Reasons.Value
+    pub say_value : is_number s ≡ false → say_of s decimals ≡ Err Reasons.Value
     unfolding say_of
     say_value k = rw (le-ltb 6 decimals h, k, say_of)
 

@@ -12,12 +12,6 @@ use values::{digit, digits_of, is_number, sign_of};
 // The largest size that is said.
 const LIMIT: u64 = 1_000_000_000_000_000;
 
-#[derive(Clone, Copy)]
-pub enum Said {
-    Units(i64),
-    Refused(Reason),
-}
-
 // A size: its digits as a whole number, the power of ten that multiplies it, and the one that divides it.
 #[derive(Clone, Copy)]
 struct Size {
@@ -42,24 +36,24 @@ fn signed(minus: bool, size: u64) -> i64
 
 // What is said of a size, rounded already.
 #[tactic(auto, unfolding(crate::specs::Say::said_of))]
-fn say_size(minus: bool, size: u64) -> Said
+fn say_size(minus: bool, size: u64) -> Result<i64, Reason>
     ensures { result ≡ said_of minus size }
 {
     if LIMIT < size {
-        return Said::Refused(Reason::TooBig);
+        return Err(Reason::TooBig);
     }
-    Said::Units(signed(minus, size))
+    Ok(signed(minus, size))
 }
 
 // The size times ten to the places; it stops growing once it is past the limit.
-fn raise(minus: bool, size: u64, places: u64) -> Said
+fn raise(minus: bool, size: u64, places: u64) -> Result<i64, Reason>
     ensures { result ≡ said_of minus (size * 10 ^ places) }
 {
     let mut v = size;
     let mut i = 0;
     while i < places {
         if LIMIT < v {
-            return Said::Refused(Reason::TooBig);
+            return Err(Reason::TooBig);
         }
         v = v * 10;
         i += 1;
@@ -69,7 +63,7 @@ fn raise(minus: bool, size: u64, places: u64) -> Said
 
 // The size over ten to the places and one more, rounded: every place but the last is cut off, and the last decides.
 #[tactic(auto, using(crate::proofs::Rounds::half_down, crate::proofs::Rounds::half_up))]
-fn lower(minus: bool, size: u64, places: u64) -> Said
+fn lower(minus: bool, size: u64, places: u64) -> Result<i64, Reason>
     ensures { result ≡ said_of minus (rounded size (10 ^ (places + 1))) }
 {
     let mut v = size;
@@ -85,7 +79,7 @@ fn lower(minus: bool, size: u64, places: u64) -> Said
 }
 
 // No power of ten is made: what multiplies and what divides cancel first.
-fn scale(minus: bool, digits: u64, up: u64, down: u64) -> Said
+fn scale(minus: bool, digits: u64, up: u64, down: u64) -> Result<i64, Reason>
     ensures { result ≡ said_of minus (rounded (digits * 10 ^ up) (10 ^ down)) }
 {
     if up < down {
@@ -186,14 +180,14 @@ fn size_of(text: &[u8]) -> Size
 
 // The decimals are checked before the text, and the text before the size.
 #[tactic(auto, using(crate::proofs::Laws::say_places, crate::proofs::Laws::say_value, crate::proofs::Laws::say_units, crate::proofs::Numbers::up_small))]
-pub fn say_number(text: &[u8], decimals: u32) -> Said
+pub fn say_number(text: &[u8], decimals: u32) -> Result<i64, Reason>
     ensures { result ≡ say_of text.now decimals }
 {
     if 6 < decimals {
-        return Said::Refused(Reason::Places);
+        return Err(Reason::Places);
     }
     if !is_number(text) {
-        return Said::Refused(Reason::Value);
+        return Err(Reason::Value);
     }
     let size = size_of(text);
     let places = decimals as u64;
