@@ -16,8 +16,8 @@ use Rattle.grammar.specs.Rows.{pick}
 use Rattle.keywords.specs.Keywords.{keywords, code_in}
 use Rattle.grammar.specs.Keywords.{keyword_of, is_unit}
 use Rattle.grammar.specs.Order.{next_of, allows}
-use Rattle.grammar.specs.declared.Form.{Form}
-use Rattle.grammar.specs.declared.Form.TheVariants.{Oem}
+use Rattle.lines.specs.declared.Form.{Form}
+use Rattle.lines.specs.declared.Form.TheVariants.{Oem}
 use Rattle.grammar.specs.declared.Keyword.TheVariants.{Code}
 use Rattle.grammar.proofs.Laws.{below, comes_only, next_only}
 use Rattle.step.specs.Step.{sixty_stands, is_timely, are_numbers, data_at, data_of, fields_of, past_whole, whole_of, number_of, past_time, is_early, time_of, value_of, assign_of, meta_code, meta_of, plain_of, past_comment, uncommented_of, filled_of, step_of}

@@ -3,7 +3,7 @@
 use Rattle.std.specs.Prelude.{ℕ, ◌≡◌, List, [], ◌++◌}
 use Rattle.words.specs.Words.{bytes}
 use Rattle.lines.specs.declared.Sides.{Sides}
-use Rattle.grammar.specs.declared.Form.TheVariants.{Oem}
+use Rattle.lines.specs.declared.Form.TheVariants.{Oem}
 use Rattle.step.specs.Step.{wrong, part, assign_of, meta_of}
 use Rattle.step.specs.declared.State.{State}
 use Rattle.reasons.specs.declared.Reason.TheVariants as Reasons

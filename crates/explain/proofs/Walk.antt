@@ -12,7 +12,7 @@ use Rattle.lines.specs.declared.Ends.{Ends}
 use Rattle.lines.specs.Feed.{lines_at, ends_of}
 use Rattle.reasons.specs.declared.Reason.{Reason}
 use Rattle.reasons.specs.declared.Reason.TheVariants as Reasons
-use Rattle.grammar.specs.declared.Form.{Form}
+use Rattle.lines.specs.declared.Form.{Form}
 use Rattle.step.specs.Step.{fresh_state, step_of}
 use Rattle.step.specs.declared.State.{State}
 use Rattle.step.specs.declared.Verdict.{Verdict}

@@ -14,8 +14,8 @@ use Rattle.grammar.specs.Rows.{between, Row, pick}
 use Rattle.grammar.specs.Keywords.{unit_of, is_unit}
 use Rattle.grammar.specs.Order.{only, opm_order, oem_order, next_of, allows}
 use Rattle.grammar.specs.declared.Next.{Next}
-use Rattle.grammar.specs.declared.Form.{Form}
-use Rattle.grammar.specs.declared.Form.TheVariants.{Opm, Oem}
+use Rattle.lines.specs.declared.Form.{Form}
+use Rattle.lines.specs.declared.Form.TheVariants.{Opm, Oem}
 
 -- ---- a table's row by its number, from 0: past the last one, no row has the code
 
@@ -94,8 +94,8 @@ next_all f p e h n = go (leb beyond n) refl
     go true z = rw (next_beyond f n (leb-true beyond n z)) (h n)
     go false z = below_all (λ k. p k (next_of f k)) beyond n e (leb-false beyond n z)
 
-none_allowed : (c : ℕ) (t : Bool) → leb 1 c ≡ t → t && (eqb c 0 || between 0 0 c) ≡ false
-none_allowed c true e = let h = leb-true 1 c e in rw (ne_eqb c 0 (λ z. omega arith), lt-leb c 0 h, le-leb 0 c zero-le)
+none_allowed : (c : ℕ) (t : Bool) → leb 1 c ≡ t → t && between 0 0 c ≡ false
+none_allowed c true e = let h = leb-true 1 c e in rw (lt-leb c 0 h, le-leb 0 c zero-le)
 none_allowed c false e = refl
 
 -- whether a code comes next behind one code alone: computed at every code that a row has

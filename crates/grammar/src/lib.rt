@@ -5,39 +5,25 @@ ghost use Rattle.std.specs.Prelude.{◌≡◌};
 ghost use Rattle.grammar.specs.Keywords.{assigns, keyword_of, kind_of, is_unit};
 ghost use Rattle.grammar.specs.Order.{only, one_of, opm_next, oem_next, next_of, allows};
 
+use lines::Form;
 use words::is_word;
 
-// The two types of message.
-#[derive(Clone, Copy)]
-pub enum Form {
-    Opm,
-    Oem,
-}
-
-// An assignment keyword's code, or no keyword of this type.
-#[derive(Clone, Copy)]
-pub enum Keyword {
-    Code(u16),
-    Unknown,
-}
-
-// What a code's value is: the heading's version, one of four, or nothing where nothing is assigned.
-#[derive(Clone, Copy)]
+// What an assigned value is: the heading's version, or one of four.
+#[derive(Clone, Copy, Debug, PartialEq, Eq)]
 pub enum Kind {
     Version,
     Text,
     Integer,
     Number,
     Epoch,
-    Nothing,
 }
 
-// What may follow: the codes from `low` to `high`, the code `also` (0: none), and the message's end.
-#[derive(Clone, Copy)]
+// What may follow: the codes from `low` to `high`, a code beside them, and the message's end.
+#[derive(Clone, Copy, Debug, PartialEq, Eq)]
 pub struct Next {
     pub low: u16,
     pub high: u16,
-    pub also: u16,
+    pub also: Option<u16>,
     pub end: bool,
 }
 
@@ -58,31 +44,31 @@ fn assigns_code(form: Form, code: u16) -> bool
     }
 }
 
-// The code of an assignment's keyword.
+// The code of an assignment's keyword, where the message type has it.
 #[tactic(auto, unfolding(crate::specs::Keywords::keyword_of))]
-pub fn keyword_of(form: Form, text: &[u8]) -> Keyword
+pub fn keyword_of(form: Form, text: &[u8]) -> Option<u16>
     ensures { result ≡ keyword_of form text.now }
 {
     let code = keywords::code_of(text);
     if assigns_code(form, code) {
-        Keyword::Code(code)
+        Some(code)
     } else {
-        Keyword::Unknown
+        None
     }
 }
 
-// What kind of value a code has.
+// What kind of value a code has; META lines, comments and what is no code assign nothing.
 #[tactic(auto, unfolding(crate::specs::Rows::pick))]
-pub fn kind_of(code: u16) -> Kind
+pub fn kind_of(code: u16) -> Option<Kind>
     ensures { result ≡ kind_of code }
 {
     match code {
-        1 | 36 => Kind::Version,
-        3..=8 | 32 | 42 => Kind::Text,
-        43 => Kind::Integer,
-        2 | 9 | 29 | 38..=41 => Kind::Epoch,
-        10..=35 => Kind::Number,
-        _ => Kind::Nothing,
+        1 | 36 => Some(Kind::Version),
+        3..=8 | 32 | 42 => Some(Kind::Text),
+        43 => Some(Kind::Integer),
+        2 | 9 | 29 | 38..=41 => Some(Kind::Epoch),
+        10..=35 => Some(Kind::Number),
+        _ => None,
     }
 }
 
@@ -112,7 +98,7 @@ fn only_code(code: u16) -> Next
     Next {
         low: code,
         high: code,
-        also: 0,
+        also: None,
         end: false,
     }
 }
@@ -123,7 +109,7 @@ fn one_of(low: u16, high: u16) -> Next
     Next {
         low,
         high,
-        also: 0,
+        also: None,
         end: false,
     }
 }
@@ -136,7 +122,7 @@ fn opm_next(last: u16) -> Next
         15 => Next {
             low: 16,
             high: 16,
-            also: 24,
+            also: Some(24),
             end: false,
         },
         20 => one_of(21, 22),
@@ -144,7 +130,7 @@ fn opm_next(last: u16) -> Next
         28 | 35 => Next {
             low: 29,
             high: 29,
-            also: 0,
+            also: None,
             end: true,
         },
         0..=34 => only_code(last + 1),
@@ -168,7 +154,7 @@ fn oem_next(last: u16) -> Next
         41 => Next {
             low: 42,
             high: 42,
-            also: 44,
+            also: Some(44),
             end: false,
         },
         42 => only_code(43),
@@ -177,13 +163,13 @@ fn oem_next(last: u16) -> Next
         9 => Next {
             low: 9,
             high: 9,
-            also: 37,
+            also: Some(37),
             end: true,
         },
         45 => Next {
             low: 37,
             high: 37,
-            also: 0,
+            also: None,
             end: true,
         },
         _ => only_code(0),
@@ -209,7 +195,7 @@ pub fn allows_code(next: Next, code: u16) -> bool
     if code < 1 {
         return false;
     }
-    if code == next.also {
+    if next.also == Some(code) {
         return true;
     }
     if code < next.low {

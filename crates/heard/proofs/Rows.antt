@@ -23,8 +23,8 @@ use Rattle.epochs.specs.declared.Epoch.TheVariants.{At, Bad}
 use Rattle.grammar.specs.Rows.{pick}
 use Rattle.grammar.specs.Keywords.{kinds, kind_of, is_unit}
 use Rattle.grammar.proofs.Laws.{picks}
-use Rattle.grammar.specs.declared.Form.{Form}
-use Rattle.grammar.specs.declared.Form.TheVariants.{Opm, Oem}
+use Rattle.lines.specs.declared.Form.{Form}
+use Rattle.lines.specs.declared.Form.TheVariants.{Opm, Oem}
 use Rattle.grammar.specs.declared.Kind.{Kind}
 use Rattle.grammar.specs.declared.Kind.TheVariants.{Version, Text, Integer, Number, Epoch as EpochKind, Nothing}
 use Rattle.reasons.specs.declared.Reason.TheVariants as Reasons

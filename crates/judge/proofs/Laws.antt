@@ -13,7 +13,7 @@ use borrow.Author.Tests.{eq-eqb, ne_eqb, lt-ltb, le-ltb, ltb-true, ltb-false}
 use Rattle.lines.specs.declared.Ends.{Ends}
 use Rattle.lines.specs.Feed.{Line, lines, lines_at, text_len, line_len, ends_of}
 use Rattle.lines.proofs.Lists.{lines_next, lines_end, placed}
-use Rattle.grammar.specs.declared.Form.{Form}
+use Rattle.lines.specs.declared.Form.{Form}
 use Rattle.step.specs.Step.{no_row, fresh_state, step_of}
 use Rattle.step.specs.declared.State.{State}
 use Rattle.step.specs.declared.Step.{Step}

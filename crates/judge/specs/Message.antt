@@ -7,8 +7,8 @@ use Rattle.lines.specs.declared.Span.{Span}
 use Rattle.lines.specs.declared.Heading.{Heading}
 use Rattle.lines.specs.declared.Heading.TheVariants as Kinds
 use Rattle.grammar.specs.Order.{next_of}
-use Rattle.grammar.specs.declared.Form.{Form}
-use Rattle.grammar.specs.declared.Form.TheVariants.{Opm, Oem}
+use Rattle.lines.specs.declared.Form.{Form}
+use Rattle.lines.specs.declared.Form.TheVariants.{Opm, Oem}
 use Rattle.step.specs.Step.{no_row, fresh_state, Sure, step_of}
 use Rattle.reasons.specs.declared.Reason.TheVariants as Reasons
 use Rattle.step.specs.declared.Verdict.{Verdict}

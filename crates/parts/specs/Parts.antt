@@ -12,7 +12,7 @@ use Rattle.epochs.specs.Epoch.{epoch_of}
 use Rattle.epochs.specs.declared.Epoch.TheVariants.{At, Bad}
 use Rattle.grammar.specs.Rows.{Row, one, pick}
 use Rattle.grammar.specs.Keywords.{keyword_of, kind_of}
-use Rattle.grammar.specs.declared.Form.{Form}
+use Rattle.lines.specs.declared.Form.{Form}
 use Rattle.grammar.specs.declared.Keyword.TheVariants.{Code, Unknown}
 use Rattle.grammar.specs.declared.Kind.{Kind}
 use Rattle.grammar.specs.declared.Kind.TheVariants.{Version, Text, Integer, Number, Epoch, Nothing}

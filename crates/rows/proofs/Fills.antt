@@ -14,8 +14,8 @@ use Rattle.lines.specs.Feed.{Line}
 use Rattle.lines.specs.Text.{no_span}
 use Rattle.lines.specs.declared.Span.{Span}
 use Rattle.grammar.specs.Order.{next_of}
-use Rattle.grammar.specs.declared.Form.{Form}
-use Rattle.grammar.specs.declared.Form.TheVariants.{Opm, Oem}
+use Rattle.lines.specs.declared.Form.{Form}
+use Rattle.lines.specs.declared.Form.TheVariants.{Opm, Oem}
 use Rattle.step.specs.Step.{fresh_state, step_of}
 use Rattle.reasons.specs.declared.Reason.TheVariants as Reasons
 use Rattle.step.specs.declared.State.{State}

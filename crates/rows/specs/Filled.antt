@@ -3,7 +3,7 @@
 use Rattle.std.specs.Prelude.{ℕ, ◌+◌, ◌*◌, ◌<◌, ◌≤◌, ◌≡◌, List, ◌++◌, true, false, ltb, length, drop, get_or}
 use Rattle.lines.specs.Feed.{lines_at}
 use Rattle.lines.specs.Text.{no_span}
-use Rattle.grammar.specs.declared.Form.{Form}
+use Rattle.lines.specs.declared.Form.{Form}
 use Rattle.step.specs.Step.{fresh_state}
 use Rattle.step.specs.declared.Step.{Step}
 use Rattle.reasons.specs.declared.Reason.TheVariants as Reasons

@@ -23,8 +23,8 @@ use Rattle.epochs.specs.Epoch.{epoch_of}
 use Rattle.epochs.specs.declared.Epoch.{Epoch}
 use Rattle.epochs.specs.declared.Instant.{Instant}
 use Rattle.grammar.specs.Keywords.{is_unit}
-use Rattle.grammar.specs.declared.Form.{Form}
-use Rattle.grammar.specs.declared.Form.TheVariants.{Opm, Oem}
+use Rattle.lines.specs.declared.Form.{Form}
+use Rattle.lines.specs.declared.Form.TheVariants.{Opm, Oem}
 use Rattle.step.specs.Step.{part, Inside, SevenInside, are_numbers, is_timely, word_len, number_of, no_row, one_row, seven_rows, past, past_data, past_comment, wrong, fields_of, data_at, data_of, filled_of, step_of}
 use Rattle.step.specs.declared.State.{State}
 use Rattle.step.specs.declared.Step.{Step}

@@ -25,8 +25,8 @@ use Rattle.epochs.specs.declared.Epoch.{Epoch as EpochRead}
 use Rattle.epochs.specs.declared.Epoch.TheVariants.{At, Bad}
 use Rattle.keywords.specs.Keywords.{Entry, keywords, code_in}
 use Rattle.grammar.specs.Keywords.{keyword_of, assigns, kind_of, is_unit}
-use Rattle.grammar.specs.declared.Form.{Form}
-use Rattle.grammar.specs.declared.Form.TheVariants.{Opm, Oem}
+use Rattle.lines.specs.declared.Form.{Form}
+use Rattle.lines.specs.declared.Form.TheVariants.{Opm, Oem}
 use Rattle.grammar.specs.declared.Keyword.{Keyword}
 use Rattle.grammar.specs.declared.Keyword.TheVariants.{Code, Unknown}
 use Rattle.grammar.specs.declared.Kind.{Kind}

@@ -15,8 +15,8 @@ use Rattle.epochs.specs.declared.Epoch.TheVariants.{At, Bad}
 use Rattle.grammar.specs.Rows.{between}
 use Rattle.grammar.specs.Keywords.{keyword_of, kind_of, is_unit}
 use Rattle.grammar.specs.Order.{next_of, allows}
-use Rattle.grammar.specs.declared.Form.{Form}
-use Rattle.grammar.specs.declared.Form.TheVariants.{Opm, Oem}
+use Rattle.lines.specs.declared.Form.{Form}
+use Rattle.lines.specs.declared.Form.TheVariants.{Opm, Oem}
 use Rattle.grammar.specs.declared.Keyword.TheVariants.{Code, Unknown}
 use Rattle.grammar.specs.declared.Kind.TheVariants.{Version, Text, Integer, Number, Epoch, Nothing}
 use Rattle.reasons.specs.declared.Reason.{Reason}

@@ -19,8 +19,8 @@ use Rattle.lines.specs.declared.Heading.TheVariants as Kinds
 use Rattle.lines.proofs.Laws.{comment_other}
 use Rattle.grammar.specs.Rows.{between, pick}
 use Rattle.grammar.specs.Order.{only, next_of, allows}
-use Rattle.grammar.specs.declared.Form.{Form}
-use Rattle.grammar.specs.declared.Form.TheVariants.{Opm, Oem}
+use Rattle.lines.specs.declared.Form.{Form}
+use Rattle.lines.specs.declared.Form.TheVariants.{Opm, Oem}
 use Rattle.grammar.specs.declared.Next.{Next}
 use Rattle.step.specs.Step.{fresh_state, fits_here, step_of}
 use Rattle.step.specs.declared.State.{State}

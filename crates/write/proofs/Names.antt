@@ -16,8 +16,8 @@ use Rattle.lines.specs.declared.Sides.{Sides}
 use Rattle.keywords.specs.Keywords.{Entry, keywords, code_in}
 use Rattle.grammar.specs.Rows.{between, pick}
 use Rattle.grammar.specs.Keywords.{assigned as assignedBy, assigns, keyword_of}
-use Rattle.grammar.specs.declared.Form.{Form}
-use Rattle.grammar.specs.declared.Form.TheVariants.{Opm, Oem}
+use Rattle.lines.specs.declared.Form.{Form}
+use Rattle.lines.specs.declared.Form.TheVariants.{Opm, Oem}
 use Rattle.grammar.specs.declared.Keyword.TheVariants.{Code}
 use Rattle.grammar.proofs.Laws.{picks}
 use Rattle.step.specs.Step.{past, past_comment, part, meta_code, step_of}

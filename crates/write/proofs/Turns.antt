@@ -12,8 +12,8 @@ use lib.Seq.{take_all, length-take-le, drop-cons, get_or-take}
 use borrow.Author.Tests.{eqb-true, eqb-false, eq-eqb, ne_eqb, le-leb}
 use Rattle.lines.specs.Text.{no_span}
 use Rattle.lines.specs.declared.Span.{Span}
-use Rattle.grammar.specs.declared.Form.{Form}
-use Rattle.grammar.specs.declared.Form.TheVariants.{Oem}
+use Rattle.lines.specs.declared.Form.{Form}
+use Rattle.lines.specs.declared.Form.TheVariants.{Oem}
 use Rattle.step.specs.declared.State.{State}
 use Rattle.step.specs.declared.Step.{Step}
 use Rattle.write.specs.Plain.{Item, item, lead_of, is_field, words_of, parting_of, behind, plain}

@@ -4,7 +4,7 @@ use Rattle.std.specs.Prelude.{ℕ, ◌+◌, ◌-◌, ◌≤◌, ◌<◌, ◌≡�
 use Rattle.lines.specs.Feed.{Line, lines_at, text_len}
 use Rattle.lines.specs.Text.{equals_at, trim_of, no_span}
 use Rattle.lines.specs.declared.Span.{Span}
-use Rattle.grammar.specs.declared.Form.{Form}
+use Rattle.lines.specs.declared.Form.{Form}
 use Rattle.step.specs.Step.{part, fresh_state, step_of}
 use Rattle.step.specs.declared.State.{State}
 use Rattle.step.specs.declared.Step.{Step}

@@ -20,8 +20,8 @@ use Rattle.values.specs.Number.{is_number}
 use Rattle.epochs.specs.Epoch.{epoch_of}
 use Rattle.epochs.specs.declared.Instant.{Instant}
 use Rattle.epochs.specs.declared.Epoch.TheVariants.{At}
-use Rattle.grammar.specs.declared.Form.{Form}
-use Rattle.grammar.specs.declared.Form.TheVariants.{Oem}
+use Rattle.lines.specs.declared.Form.{Form}
+use Rattle.lines.specs.declared.Form.TheVariants.{Oem}
 use Rattle.step.specs.Step.{seven_rows, past_data, sixty_stands, part, are_numbers, data_at, data_of, fields_of, meta_code, plain_of, uncommented_of, filled_of, step_of}
 use Rattle.step.specs.declared.State.{State}
 use Rattle.step.proofs.Laws.{fields_in_lem}

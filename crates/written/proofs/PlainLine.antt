@@ -23,7 +23,7 @@ use Rattle.values.specs.Number.{is_number}
 use Rattle.keywords.specs.Keywords.{keywords}
 use Rattle.grammar.specs.Keywords.{keyword_of, is_unit}
 use Rattle.grammar.specs.declared.Keyword.TheVariants.{Code}
-use Rattle.grammar.specs.declared.Form.{Form}
+use Rattle.lines.specs.declared.Form.{Form}
 use Rattle.step.specs.Step.{part, one_row, past, word_len, number_of, value_of, fits_here, past_comment, meta_code, meta_of, assign_of, plain_of, uncommented_of, filled_of, step_of}
 use Rattle.step.specs.declared.State.{State}
 use Rattle.step.specs.declared.Step.{Step}

@@ -17,8 +17,8 @@ use Rattle.lines.specs.declared.Span.{Span}
 use Rattle.epochs.specs.declared.Instant.{Instant}
 use Rattle.grammar.specs.Rows.{pick}
 use Rattle.grammar.specs.Order.{next_of, allows}
-use Rattle.grammar.specs.declared.Form.{Form}
-use Rattle.grammar.specs.declared.Form.TheVariants.{Opm, Oem}
+use Rattle.lines.specs.declared.Form.{Form}
+use Rattle.lines.specs.declared.Form.TheVariants.{Opm, Oem}
 use Rattle.grammar.proofs.Laws.{below, comes_only, next_only}
 use Rattle.step.specs.Step.{part, no_row, one_row, seven_rows, fresh_state, past_data, past_comment, fits_here, step_of}
 use Rattle.step.specs.declared.State.{State}

@@ -7,7 +7,7 @@ use native.Mathlib.Omega.{arith}
 use lib.Dec.{eqb}
 use lib.ListN.{length, length-append}
 use borrow.Author.Tests.{eq-eqb, ne_eqb}
-use Rattle.grammar.specs.declared.Form.{Form}
+use Rattle.lines.specs.declared.Form.{Form}
 use Rattle.step.specs.declared.Verdict.TheVariants.{Right}
 use Rattle.judge.specs.Message.{texts, judge_texts}
 use Rattle.judge.specs.declared.Judged.TheVariants.{Accepted}
