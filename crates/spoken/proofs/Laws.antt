@@ -12,7 +12,6 @@ use borrow.Author.Tests.{lt-ltb, le-ltb, ltb-true, ltb-false, eq-eqb, ne_eqb}
 use Rattle.words.specs.Words.{bytes}
 use Rattle.lines.specs.Text.{is_long, odd_at}
 use Rattle.grammar.specs.Keywords.{kinds, kind_of}
-use Rattle.grammar.specs.declared.Kind.TheVariants.{Nothing}
 use Rattle.grammar.proofs.Laws.{picks}
 use Rattle.reasons.specs.declared.Reason.TheVariants as Reasons
 use Rattle.spoken.specs.Saying.{said_by, mark_at, said_from, framed, words_by}
@@ -22,22 +21,21 @@ use Rattle.spoken.specs.declared.Mark.{Mark}
 use Rattle.spoken.specs.declared.Mark.TheVariants.{Itself, Plus, Minus, Power, Month, Day, Clock, Hours, Minutes}
 use Rattle.spoken.specs.declared.Manner.{Manner}
 use Rattle.spoken.specs.declared.Manner.TheVariants.{Plain, Numeral, Calendar, Ordinal}
-use Rattle.spoken.specs.declared.Way.TheVariants.{By, Unsaid}
-use Rattle.spoken.specs.declared.Spoken.TheVariants.{Words, Refused}
+use Rattle.std.specs.Prelude.{Some, None, Ok, Err}
 
 -- ---- which values are said
 
 module _ (c : ℕ) (v : List ℕ) where
-  pub way_long : 254 < length v → Unsaid ≡ way_of c v
+  pub way_long : 254 < length v → None ≡ way_of c v
   unfolding way_of
   way_long h = rw (lt-ltb _ _ h, way_of)
 
-  pub way_odd : length v ≤ 254 → odd_at v < length v → Unsaid ≡ way_of c v
+  pub way_odd : length v ≤ 254 → odd_at v < length v → None ≡ way_of c v
   unfolding way_of
   way_odd h o = rw (le-ltb _ _ h, lt-ltb _ _ o, way_of)
 
   module _ (h : length v ≤ 254) (o : length v ≤ odd_at v) where
-    pub way_comment : c ≡ 45 → By Plain ≡ way_of c v
+    pub way_comment : c ≡ 45 → Some Plain ≡ way_of c v
     unfolding way_of
     way_comment e = rw (le-ltb _ _ h, le-ltb _ _ o, eq-eqb _ _ e, way_of)
 
@@ -46,7 +44,7 @@ module _ (c : ℕ) (v : List ℕ) where
     way_kind e = rw (le-ltb _ _ h, le-ltb _ _ o, ne_eqb _ _ e, way_of)
 
   -- what is said is not long
-  pub way_few : (m : Manner) → way_of c v ≡ By m → length v ≤ 254
+  pub way_few : (m : Manner) → way_of c v ≡ Some m → length v ≤ 254
   way_few m e = go (is_long v) refl
     where
       go : (t : Bool) → is_long v ≡ t → length v ≤ 254
@@ -54,7 +52,7 @@ module _ (c : ℕ) (v : List ℕ) where
       go true q = let z : ◌≡◌ {A = ℕ} 0 1 = cc (way_long (ltb-true _ _ q)) in absurd (omega arith)
 
 -- past the codes there is no kind of value
-pub no_kind : (c : ℕ) → 65535 < c → Nothing ≡ kind_of c
+pub no_kind : (c : ℕ) → 65535 < c → None ≡ kind_of c
 no_kind c h = picks kinds _ 11 _ (omega arith)
 
 -- ---- a value's words, byte by byte
@@ -117,10 +115,10 @@ words_few m v h = omega (arith, words_long m v, said-few m 0 v)
 -- ---- words, and a buffer that has room for them or has not
 
 module _ (o : List ℕ) (room : ℕ) where
-  pub fitted_no : room < length o → fitted o room ≡ Refused Reasons.NoRoom
+  pub fitted_no : room < length o → fitted o room ≡ Err Reasons.NoRoom
   unfolding fitted
   fitted_no h = rw (lt-ltb room (length o) h, fitted)
 
-  pub fitted-words : length o ≤ room → fitted o room ≡ Words (length o)
+  pub fitted-words : length o ≤ room → fitted o room ≡ Ok (length o)
   unfolding fitted
   fitted-words h = rw (le-ltb room (length o) h, fitted)

@@ -4,16 +4,15 @@
 ghost use Rattle.std.specs.Prelude.{◌≡◌, ◌≤◌, ◌<◌, ◌+◌, length};
 ghost use Rattle.ink.specs.Ink.{inked, Room};
 ghost use Rattle.spoken.specs.Saying.{said_by, mark_at, framed, words_by};
-ghost use Rattle.spoken.specs.Way.{way_if, epoch_way, way_in, way_of};
+ghost use Rattle.spoken.specs.Way.{epoch_way, way_in, way_of};
 ghost use Rattle.spoken.specs.Spoken.{fitted, spoken_of, words_of, buffer_after};
 
-use epochs::Epoch;
 use grammar::Kind;
 use ink::put;
 use reasons::Reason;
 
 // How a value's bytes are said: as they stand, as a number's, or as an epoch's in one of its two forms.
-#[derive(Clone, Copy)]
+#[derive(Clone, Copy, Debug, PartialEq, Eq)]
 pub enum Manner {
     Plain,
     Numeral,
@@ -21,15 +20,8 @@ pub enum Manner {
     Ordinal,
 }
 
-// The manner of a value that is right in its kind; any other is not said.
-#[derive(Clone, Copy)]
-pub enum Way {
-    By(Manner),
-    Unsaid,
-}
-
 // What a byte is said as: itself, or the words of a mark.
-#[derive(Clone, Copy)]
+#[derive(Clone, Copy, Debug, PartialEq, Eq)]
 pub enum Mark {
     Itself,
     Plus,
@@ -42,67 +34,51 @@ pub enum Mark {
     Minutes,
 }
 
-// The words' length, or why there are none.
-#[derive(Clone, Copy)]
-pub enum Spoken {
-    Words(u32),
-    Refused(Reason),
-}
-
-fn way_if(right: bool, manner: Manner) -> Way
-    ensures { result ≡ way_if right manner }
-{
-    if right {
-        return Way::By(manner);
-    }
-    Way::Unsaid
-}
-
 #[tactic(auto, unfolding(crate::specs::Way::epoch_way, words::specs::Words::bytes))]
-fn epoch_way(value: &[u8]) -> Way
+fn epoch_way(value: &[u8]) -> Option<Manner>
     ensures { result ≡ epoch_way value.now }
 {
     match epochs::epoch_of(value, true) {
-        Epoch::At(_) => {
+        Some(_) => {
             if epochs::has_shape(value, b"0000-00-00T00:00:00") {
-                return Way::By(Manner::Calendar);
+                return Some(Manner::Calendar);
             }
-            Way::By(Manner::Ordinal)
+            Some(Manner::Ordinal)
         }
-        Epoch::Bad => Way::Unsaid,
+        None => None,
     }
 }
 
 #[tactic(auto, unfolding(crate::specs::Way::way_in))]
-fn way_in(kind: Kind, value: &[u8]) -> Way
+fn way_in(kind: Option<Kind>, value: &[u8]) -> Option<Manner>
     ensures { result ≡ way_in kind value.now }
 {
     match kind {
-        Kind::Version => way_if(values::is_version(value), Manner::Plain),
-        Kind::Text => way_if(values::is_text(value), Manner::Plain),
-        Kind::Integer => way_if(values::is_integer(value), Manner::Numeral),
-        Kind::Number => way_if(values::is_number(value), Manner::Numeral),
-        Kind::Epoch => epoch_way(value),
-        Kind::Nothing => Way::Unsaid,
+        Some(Kind::Version) => values::is_version(value).then_some(Manner::Plain),
+        Some(Kind::Text) => values::is_text(value).then_some(Manner::Plain),
+        Some(Kind::Integer) => values::is_integer(value).then_some(Manner::Numeral),
+        Some(Kind::Number) => values::is_number(value).then_some(Manner::Numeral),
+        Some(Kind::Epoch) => epoch_way(value),
+        None => None,
     }
 }
 
 // How the value of a code is said, if it is right.
 #[tactic(auto, unfolding(crate::specs::Way::way_of, crate::specs::Way::way_in, grammar::specs::Rows::pick))]
-fn way_of(code: u32, value: &[u8]) -> Way
+fn way_of(code: u32, value: &[u8]) -> Option<Manner>
     ensures { result ≡ way_of code value.now }
 {
     if 254 < value.len() {
-        return Way::Unsaid;
+        return None;
     }
     if lines::odd_at(value) < value.len() {
-        return Way::Unsaid;
+        return None;
     }
     if code == 45 {
-        return Way::By(Manner::Plain);
+        return Some(Manner::Plain);
     }
     if 65535 < code {
-        return Way::Unsaid; // no code
+        return None; // no code
     }
     way_in(grammar::kind_of(code as u16), value)
 }
@@ -212,27 +188,27 @@ fn put_words(buffer: &mut [u8], value: &[u8], manner: Manner, writing: bool) -> 
 
 // A value that is right, measured first: nothing is written before it is known to fit.
 #[tactic(auto, using(crate::proofs::Laws::words_few, ink::proofs::Laws::put_whole), unfolding(crate::specs::Spoken::fitted, crate::specs::Spoken::buffer_after, ink::specs::Ink::inked))]
-fn say(buffer: &mut [u8], value: &[u8], manner: Manner) -> Spoken
+fn say(buffer: &mut [u8], value: &[u8], manner: Manner) -> Result<u32, Reason>
     requires { length value.now ≤ 254 }
     ensures answer { result ≡ fitted (words_by manner value.now) (length buffer.old) }
     ensures buffer { buffer.new ≡ buffer_after result (words_by manner value.now) buffer.old }
 {
     let length = put_words(buffer, value, manner, false);
     if buffer.len() < length {
-        return Spoken::Refused(Reason::NoRoom);
+        return Err(Reason::NoRoom);
     }
     put_words(buffer, value, manner, true);
-    Spoken::Words(length as u32)
+    Ok(length as u32)
 }
 
 // How the value of a code is said, written into the buffer where it is right and there is room.
 #[tactic(auto, using(crate::proofs::Laws::way_few), unfolding(crate::specs::Spoken::spoken_by, crate::specs::Spoken::words_in, crate::specs::Spoken::buffer_after))]
-pub fn in_words(code: u32, value: &[u8], buffer: &mut [u8]) -> Spoken
+pub fn in_words(code: u32, value: &[u8], buffer: &mut [u8]) -> Result<u32, Reason>
     ensures answer { result ≡ spoken_of code value.now (length buffer.old) }
     ensures buffer { buffer.new ≡ buffer_after result (words_of code value.now) buffer.old }
 {
     match way_of(code, value) {
-        Way::By(manner) => say(buffer, value, manner),
-        Way::Unsaid => Spoken::Refused(Reason::Value),
+        Some(manner) => say(buffer, value, manner),
+        None => Err(Reason::Value),
     }
 }
