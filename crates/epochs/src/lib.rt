@@ -7,7 +7,7 @@ ghost use Rattle.epochs.specs.Epoch.{shaped, fits, digit_at, two_at, year_at, is
 use values::{digit, only_digits};
 
 // A moment: the year times a thousand and the day of the year, the second of the day (86,400 is 23:59:60), the nanosecond of the second.
-#[derive(Clone, Copy)]
+#[derive(Clone, Copy, Debug, PartialEq, Eq)]
 pub struct Instant {
     pub day: u64,
     pub second: u64,

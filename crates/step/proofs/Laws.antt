@@ -9,7 +9,6 @@ use native.Mathlib.Omega.{arith}
 use lib.ListN.{length, get_or, set, take, drop, replicate, length-set, length-take, length-drop, drop_of_length-le}
 use lib.Seq.{drop-cons}
 use Rattle.lines.specs.Text.{no_span}
-use Rattle.lines.specs.declared.Assignment.TheVariants as Assigns
 use Rattle.lines.specs.declared.Span.{Span}
 use Rattle.values.specs.Number.{is_number}
 use lib.Dec.{eqb, ltb}
@@ -20,17 +19,16 @@ use Rattle.lines.specs.declared.Fields.{Fields}
 use borrow.Author.Tests.{ltb-true}
 use Rattle.lines.proofs.Laws.{trim_within}
 use Rattle.epochs.specs.Epoch.{epoch_of}
-use Rattle.epochs.specs.declared.Epoch.{Epoch}
 use Rattle.epochs.specs.declared.Instant.{Instant}
 use Rattle.grammar.specs.Keywords.{is_unit}
 use Rattle.lines.specs.declared.Form.{Form}
 use Rattle.lines.specs.declared.Form.TheVariants.{Opm, Oem}
-use Rattle.step.specs.Step.{part, Inside, SevenInside, are_numbers, is_timely, word_len, number_of, no_row, one_row, seven_rows, past, past_data, past_comment, wrong, fields_of, data_at, data_of, filled_of, step_of}
+use Rattle.step.specs.Step.{part, Inside, SevenInside, are_numbers, is_timely, word_len, number_of, no_row, one_row, seven_rows, past, past_data, past_comment, fields_of, data_at, data_of, filled_of, step_of}
 use Rattle.step.specs.declared.State.{State}
 use Rattle.step.specs.declared.Step.{Step}
-use Rattle.step.specs.declared.Verdict.TheVariants.{Right}
 use Rattle.reasons.specs.declared.Reason.{Reason}
 use Rattle.reasons.specs.declared.Reason.TheVariants as Reasons
+use Rattle.std.specs.Prelude.{Option, Some, None, Result, Ok, Err, IsOk}
 
 -- ---- fields that are numbers, seen from a place in the list of spans
 
@@ -57,42 +55,42 @@ comment_in st f e = ap (λ (g : Form). elim g [ Opm ↦ st | Oem ↦ elim (eqb s
 pub fields_in_lem : (st : State) (s : List ℕ) (f : Form) → st.form ≡ f
     → fields_of st s
     ≡ elim f [
-      | Opm ↦ wrong st Reasons.Form
-      | Oem ↦ elim (eqb (split_of s).count 7) [ false ↦ wrong st Reasons.Form | true ↦ data_of st (split_of s) s ]
+      | Opm ↦ Err Reasons.Form
+      | Oem ↦ elim (eqb (split_of s).count 7) [ false ↦ Err Reasons.Form | true ↦ data_of st (split_of s) s ]
     ]
 unfolding fields_of
 fields_in_lem st s f e =
     ap
     (λ (g : Form).
     elim g [
-      | Opm ↦ wrong st Reasons.Form
-      | Oem ↦ elim (eqb (split_of s).count 7) [ false ↦ wrong st Reasons.Form | true ↦ data_of st (split_of s) s ]
+      | Opm ↦ Err Reasons.Form
+      | Oem ↦ elim (eqb (split_of s).count 7) [ false ↦ Err Reasons.Form | true ↦ data_of st (split_of s) s ]
     ])
     e
 
 -- ---- a line that is right passed each test on its way
 
-module _ (st : State) (r : Reason) {x y : Step} where
-  kept : (b : Bool) → y ≡ elim b [ true ↦ x | false ↦ wrong st r ] → y.verdict ≡ Right → y ≡ x
+module _ (r : Reason) {x y : Result Step Reason} where
+  kept : (b : Bool) → y ≡ elim b [ true ↦ x | false ↦ Err r ] → IsOk y → y ≡ x
   kept true p e = p
   kept false p e = cc
 
-  spared : (b : Bool) → y ≡ elim b [ true ↦ wrong st r | false ↦ x ] → y.verdict ≡ Right → y ≡ x
+  spared : (b : Bool) → y ≡ elim b [ true ↦ Err r | false ↦ x ] → IsOk y → y ≡ x
   spared true p e = cc
   spared false p e = p
 
 module _ (st : State) (s : List ℕ) where
-  pub data_right : (f : Fields) (t : Instant) → (data_at st f t s).verdict ≡ Right → data_at st f t s ≡ seven_rows (past_data st t) f.spans
+  pub data_right : (f : Fields) (t : Instant) → IsOk (data_at st f t s) → data_at st f t s ≡ Ok (seven_rows (past_data st t) f.spans)
   unfolding data_at
-  data_right f t e = kept st _ (is_timely st t) (kept st _ (are_numbers (drop 1 f.spans) s) refl e) e
+  data_right f t e = kept _ (is_timely st t) (kept _ (are_numbers (drop 1 f.spans) s) refl e) e
 
-  pub step_right : (step_of st s).verdict ≡ Right → step_of st s ≡ elim (eqb (trim_of s).to 0) [ true ↦ no_row st | false ↦ filled_of st (trim_of s) s ]
+  pub step_right : IsOk (step_of st s) → step_of st s ≡ elim (eqb (trim_of s).to 0) [ true ↦ Ok (no_row st) | false ↦ filled_of st (trim_of s) s ]
   unfolding step_of
-  step_right e = spared st _ (ltb (odd_at s) (length s)) (spared st _ (is_long s) refl e) e
+  step_right e = spared _ (ltb (odd_at s) (length s)) (spared _ (is_long s) refl e) e
 
 -- ---- an epoch read by one who found out whether second 60 may stand
 
-pub epoch_read : (v : List ℕ) (asked may : Bool) (e : Epoch) → e ≡ epoch_of v asked → asked ≡ may → epoch_of v may ≡ e
+pub epoch_read : (v : List ℕ) (asked may : Bool) (e : Option Instant) → e ≡ epoch_of v asked → asked ≡ may → epoch_of v may ≡ e
 epoch_read v asked may e h k = sym (h ∙ ap (epoch_of v) k)
 
 -- ---- parts of a text
@@ -109,16 +107,16 @@ trim_inside s p e = rw e (record { order = (trim_within s).0; end = (trim_within
 -- ---- a number and its unit, as the walk found them: n bytes to the first blank, the rest r, and its trimmed part q
 
 module _ (st : State) (c : ℕ) (p : Span) (s : List ℕ) (n : ℕ) (k : n ≡ word_len (part p s)) where
-  pub number_bad : is_number (take n (part p s)) ≡ false → number_of st c p s ≡ wrong st Reasons.Value
+  pub number_bad : is_number (take n (part p s)) ≡ false → number_of st c p s ≡ Err Reasons.Value
   unfolding number_of
   number_bad e = rw (← k, number_of) (rw e)
 
   module _ (r : List ℕ) (q : Span) (kr : r ≡ drop n (part p s)) (kq : q ≡ trim_of r) (e : is_number (take n (part p s)) ≡ true) where
-    pub number_unit : is_unit c (part q r) ≡ false → number_of st c p s ≡ wrong st Reasons.Unit
+    pub number_unit : is_unit c (part q r) ≡ false → number_of st c p s ≡ Err Reasons.Unit
     unfolding number_of
     number_unit u = rw (← k, number_of) (rw e (rw (← k) (rw (← kr, ← kq) (rw u))))
 
-    pub number_right : is_unit c (part q r) ≡ true → number_of st c p s ≡ one_row (past st c) c (record { from = p.from; to = p.from + n })
+    pub number_right : is_unit c (part q r) ≡ true → number_of st c p s ≡ Ok (one_row (past st c) c (record { from = p.from; to = p.from + n }))
     unfolding number_of
     number_right u = rw (← k, number_of) (rw e (rw (← k) (rw (← kr, ← kq) (rw u (rw (← k))))))
 
@@ -134,11 +132,11 @@ sides_at s n x h e =
       record { order = omega (arith, v.0); end = omega (arith, v.1, length-drop (n + 1) s) },
     )
 
-pub sides_inside : (s : List ℕ) (x : Sides) → assignment_of s ≡ Assigns.Parted x → Inside x.keyword s × Inside x.value s
+pub sides_inside : (s : List ℕ) (x : Sides) → assignment_of s ≡ Some x → Inside x.keyword s × Inside x.value s
 unfolding assignment_of
 sides_inside s x = go (ltb (equals_at s) (length s)) refl
   where
-    go : (t : Bool) → ltb (equals_at s) (length s) ≡ t → elim t [ true ↦ Assigns.Parted (sides_of (equals_at s) s) | false ↦ Assigns.Other ] ≡ Assigns.Parted x
+    go : (t : Bool) → ltb (equals_at s) (length s) ≡ t → elim t [ true ↦ Some (sides_of (equals_at s) s) | false ↦ None ] ≡ Some x
         → Inside x.keyword s × Inside x.value s
     go true q e = sides_at s (equals_at s) x (ltb-true _ _ q) cc
     go false q e = let z : ◌≡◌ {A = ℕ} 0 1 = cc in absurd (omega arith)

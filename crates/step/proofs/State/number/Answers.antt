@@ -29,8 +29,7 @@ slice_bounds-rest-start c = in_value _ _ c.byte_at-n.ensures
 pub returns-then-not-unit_right : goal.returns-then-not-unit_right
 returns-then-not-unit_right c =
     let n = c.byte_at-n.ensures in
-    c.wrong-then-not-unit_right.ensures
-    ∙ sym (number_unit _ _ _ _ _ n _ _ (part_from (part c.args.p c.args.text.now) c.byte_at-n.result) c.trim-unit.ensures (sym c.is_number.ensures ∙ c.if-not-is_number.false) (sym c.unit_right.ensures ∙ c.if-not-unit_right.true))
+    sym (number_unit _ _ _ _ _ n _ _ (part_from (part c.args.p c.args.text.now) c.byte_at-n.result) c.trim-unit.ensures (sym c.is_number.ensures ∙ c.if-not-is_number.false) (sym c.unit_right.ensures ∙ c.if-not-unit_right.true))
 
 pub overflow_add-from : goal.overflow_add-from
 overflow_add-from c = omega (arith, in_value _ _ c.byte_at-n.ensures, part_length c.args.p c.args.text.now c.requires)
@@ -38,6 +37,5 @@ overflow_add-from c = omega (arith, in_value _ _ c.byte_at-n.ensures, part_lengt
 pub returns : goal.returns
 returns c =
     let n = c.byte_at-n.ensures in
-    c.one_row.ensures
-    ∙ rw c.past.ensures
+    rw (c.one_row.ensures, c.past.ensures)
     (sym (number_right _ _ _ _ _ n _ _ (part_from (part c.args.p c.args.text.now) c.byte_at-n.result) c.trim-unit.ensures (sym c.is_number.ensures ∙ c.if-not-is_number.false) (sym c.unit_right.ensures ∙ c.if-not-unit_right.false)))
