@@ -16,21 +16,18 @@ use Rattle.lines.specs.Text.{is_odd, odd_at, no_span, trim_of, moved, assignment
 use Rattle.lines.specs.declared.Span.{Span}
 use Rattle.lines.specs.declared.Sides.{Sides}
 use Rattle.lines.specs.declared.Fields.{Fields}
-use Rattle.lines.specs.declared.Assignment.{Assignment}
-use Rattle.lines.specs.declared.Assignment.TheVariants as Assigns
 use Rattle.values.specs.Number.{is_number}
 use Rattle.epochs.specs.Epoch.{epoch_of}
 use Rattle.epochs.specs.declared.Instant.{Instant}
-use Rattle.epochs.specs.declared.Epoch.{Epoch as EpochRead}
-use Rattle.epochs.specs.declared.Epoch.TheVariants.{At, Bad}
 use Rattle.grammar.specs.Rows.{between, Row, pick}
 use Rattle.grammar.specs.declared.Kind.{Kind}
-use Rattle.grammar.specs.declared.Kind.TheVariants.{Version, Text, Integer, Number, Epoch, Nothing}
+use Rattle.grammar.specs.declared.Kind.TheVariants.{Version, Text, Integer, Number, Epoch}
 use Rattle.grammar.proofs.Laws.{First, row, picks}
 use Rattle.step.specs.declared.State.{State}
 use Rattle.step.specs.Step.{part, word_len, Inside}
 use Rattle.step.proofs.Laws.{part_length, word-le, trim_inside, sides_inside, fields_inside}
 use Rattle.parts.specs.Parts.{past_long, first_odd, sides_in, keyword_part, value_in, kind_in, first_wrong, data_part, value_part, unit_part, offences, offending}
+use Rattle.std.specs.Prelude.{Option, Some, None}
 
 -- ---- parts lie in the text
 
@@ -41,10 +38,10 @@ pub sides_within : (s : List ℕ) (x : Sides) → x ≡ sides_in s → Inside x.
 unfolding sides_in
 sides_within s x e = rw e (go (assignment_of s) refl)
   where
-    go : (q : Assignment) → assignment_of s ≡ q
-        → let y : Sides = elim q [ Assigns.Parted z ↦ z | Assigns.Other ↦ record { keyword = no_span; value = no_span } ] in Inside y.keyword s × Inside y.value s
-    go (Assigns.Parted y) h = sides_inside s y h
-    go Assigns.Other h = (none_inside s, none_inside s)
+    go : (q : Option Sides) → assignment_of s ≡ q
+        → let y : Sides = elim q [ Some z ↦ z | None ↦ record { keyword = no_span; value = no_span } ] in Inside y.keyword s × Inside y.value s
+    go (Some y) h = sides_inside s y h
+    go None h = (none_inside s, none_inside s)
 
 -- a number ends in its field
 pub number_within : (p : Span) (s : List ℕ) → Inside p s → p.from + word_len (part p s) ≤ p.to
@@ -79,12 +76,12 @@ module _ (d : Span) (ps : List Span) (s : List ℕ) (i : ℕ) where
 
 -- ---- the one field of a data line, its epoch read
 
-module _ (st : State) (s : List ℕ) (f : Fields) (e : EpochRead) (hf : f ≡ split_of s) (he : e ≡ epoch_of (part (get_or f.spans 0 no_span) s) st.utc) where
-  pub data_bad : e ≡ Bad → get_or f.spans 0 no_span ≡ data_part st s
+module _ (st : State) (s : List ℕ) (f : Fields) (e : Option Instant) (hf : f ≡ split_of s) (he : e ≡ epoch_of (part (get_or f.spans 0 no_span) s) st.utc) where
+  pub data_bad : e ≡ None → get_or f.spans 0 no_span ≡ data_part st s
   unfolding data_part
   data_bad h = rw (← hf, data_part) (rw (sym he ∙ h, data_part) (rw (← hf)))
 
-  pub data_later : {t : Instant} → e ≡ At t → first_wrong (get_or f.spans 0 no_span) (drop 1 f.spans) s ≡ data_part st s
+  pub data_later : {t : Instant} → e ≡ Some t → first_wrong (get_or f.spans 0 no_span) (drop 1 f.spans) s ≡ data_part st s
   unfolding data_part
   data_later h = rw (← hf, data_part) (rw (sym he ∙ h, data_part) (rw (← hf)))
 
@@ -123,14 +120,14 @@ module _ (s : List ℕ) where
   keyword_inside =
       either (eqb (sides_in s).keyword.to 0) (record { order = omega arith; end = run-le (λ b. not (eqb b 61)) s }) (sides_within s (sides_in s) refl).0
 
-  in_inside : (k : Kind) (p : Span) → Inside p s → Inside (value_in k p s) s
+  in_inside : (k : Option Kind) (p : Span) → Inside p s → Inside (value_in k p s) s
   unfolding value_in
-  in_inside Number p h = record { order = omega arith; end = omega (arith, number_within p s h, h.end) }
-  in_inside Version p h = h
-  in_inside Text p h = h
-  in_inside Integer p h = h
-  in_inside Epoch p h = h
-  in_inside Nothing p h = h
+  in_inside (Some Number) p h = record { order = omega arith; end = omega (arith, number_within p s h, h.end) }
+  in_inside (Some Version) p h = h
+  in_inside (Some Text) p h = h
+  in_inside (Some Integer) p h = h
+  in_inside (Some Epoch) p h = h
+  in_inside None p h = h
 
   wrong-inside : (d : Span) (ps : List Span) → Inside d s → ((i : ℕ) → Inside (get_or ps i no_span) s) → Inside (first_wrong d ps s) s
   unfolding first_wrong
@@ -145,19 +142,19 @@ module _ (s : List ℕ) where
   unfolding data_part
   data_inside st = go (epoch_of (part (get_or (split_of s).spans 0 no_span) s) st.utc)
     where
-      go : (e : EpochRead)
-          → let ps = (split_of s).spans in Inside (elim e [ Bad ↦ get_or ps 0 no_span | At t ↦ first_wrong (get_or ps 0 no_span) (drop 1 ps) s ]) s
-      go Bad = (fields_inside s _ refl).inside 0
-      go (At t) = let a = (fields_inside s _ refl).inside in wrong-inside _ _ (a 0) (rest_inside (split_of s).spans a)
+      go : (e : Option Instant)
+          → let ps = (split_of s).spans in Inside (elim e [ None ↦ get_or ps 0 no_span | Some t ↦ first_wrong (get_or ps 0 no_span) (drop 1 ps) s ]) s
+      go None = (fields_inside s _ refl).inside 0
+      go (Some t) = let a = (fields_inside s _ refl).inside in wrong-inside _ _ (a 0) (rest_inside (split_of s).spans a)
 
   value-inside : (st : State) → Inside (value_part st s) s
   unfolding value_part
   value-inside st = go (assignment_of s) refl
     where
-      go : (q : Assignment) → assignment_of s ≡ q
-          → Inside (elim q [ Assigns.Parted x ↦ value_in (kind_in st.form x s) x.value s | Assigns.Other ↦ data_part st s ]) s
-      go (Assigns.Parted x) e = in_inside _ _ (sides_inside s x e).1
-      go Assigns.Other e = data_inside st
+      go : (q : Option Sides) → assignment_of s ≡ q
+          → Inside (elim q [ Some x ↦ value_in (kind_in st.form x s) x.value s | None ↦ data_part st s ]) s
+      go (Some x) e = in_inside _ _ (sides_inside s x e).1
+      go None e = data_inside st
 
   unit_inside : Inside (unit_part s) s
   unit_inside =

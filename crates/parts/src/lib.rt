@@ -6,10 +6,10 @@ ghost use Rattle.lines.specs.Text.{no_span};
 ghost use Rattle.step.specs.Step.{Inside, SevenInside};
 ghost use Rattle.parts.specs.Parts.{past_long, first_odd, sides_in, keyword_part, value_in, kind_in, first_wrong, data_part, value_part, unit_part, offending};
 
-use epochs::{Epoch, epoch_of};
-use grammar::{Form, Keyword, Kind};
-use lines::{Assignment, Sides, Span};
-use reasons::{Reason, reason_number};
+use epochs::epoch_of;
+use grammar::Kind;
+use lines::{Form, Sides, Span};
+use reasons::Reason;
 use step::State;
 use words::byte_at;
 
@@ -36,26 +36,23 @@ fn first_odd(text: &[u8]) -> Span
 }
 
 // An assignment's sides, both empty where the line is none.
+#[tactic(auto, unfolding(crate::specs::Parts::sides_in))]
 fn sides_in(text: &[u8]) -> Sides
     ensures { result ≡ sides_in text.now }
 {
-    match lines::assignment_of(text) {
-        Assignment::Parted(x) => x,
-        Assignment::Other => Sides {
-            keyword: Span { from: 0, to: 0 },
-            value: Span { from: 0, to: 0 },
-        },
-    }
+    lines::assignment_of(text).unwrap_or(Sides {
+        keyword: Span { from: 0, to: 0 },
+        value: Span { from: 0, to: 0 },
+    })
 }
 
 // The keyword, or the place of the `=` where it is empty.
 fn keyword_part(text: &[u8]) -> Span
     ensures { result ≡ keyword_part text.now }
 {
-    let x = sides_in(text);
-    let keyword = x.keyword;
+    let keyword = sides_in(text).keyword;
     if keyword.to == 0 {
-        let n = byte_at(text, 61);
+        let n = byte_at(text, b'=');
         return Span { from: n, to: n };
     }
     keyword
@@ -63,37 +60,27 @@ fn keyword_part(text: &[u8]) -> Span
 
 // The value in its field: a number ends at the first blank.
 #[tactic(auto, unfolding(crate::specs::Parts::value_in))]
-fn value_in(kind: Kind, p: Span, text: &[u8]) -> Span
+fn value_in(kind: Option<Kind>, p: Span, text: &[u8]) -> Span
     requires { Inside p text.now }
     ensures { result ≡ value_in kind p text.now }
 {
-    let from = p.from;
-    let to = p.to;
     match kind {
-        Kind::Number => Span {
-            from,
-            to: from + byte_at(&text[from..to], 32),
+        Some(Kind::Number) => Span {
+            from: p.from,
+            to: p.from + byte_at(&text[p.from..p.to], b' '),
         },
-        Kind::Version => p,
-        Kind::Text => p,
-        Kind::Integer => p,
-        Kind::Epoch => p,
-        Kind::Nothing => p,
+        _ => p,
     }
 }
 
 // What kind of value an assignment's keyword has.
-fn kind_in(form: Form, x: Sides, text: &[u8]) -> Kind
+#[tactic(auto, unfolding(crate::specs::Parts::kind_in))]
+fn kind_in(form: Form, x: Sides, text: &[u8]) -> Option<Kind>
     requires { Inside x.keyword text.now }
     ensures { result ≡ kind_in form x text.now }
 {
-    let keyword = x.keyword;
-    let from = keyword.from;
-    let to = keyword.to;
-    match grammar::keyword_of(form, &text[from..to]) {
-        Keyword::Code(code) => grammar::kind_of(code),
-        Keyword::Unknown => Kind::Nothing,
-    }
+    let keyword = &text[x.keyword.from..x.keyword.to];
+    grammar::keyword_of(form, keyword).and_then(grammar::kind_of)
 }
 
 // The first of a data line's fields but the epoch that is no number, or the epoch.
@@ -119,14 +106,11 @@ fn first_wrong(spans: [Span; 7], text: &[u8]) -> Span
 fn data_part(state: State, text: &[u8]) -> Span
     ensures { result ≡ data_part state text.now }
 {
-    let f = lines::fields_of(text);
-    let spans = f.spans;
+    let spans = lines::fields_of(text).spans;
     let p = spans[0];
-    let from = p.from;
-    let to = p.to;
-    match epoch_of(&text[from..to], state.utc) {
-        Epoch::Bad => p,
-        Epoch::At(_) => first_wrong(spans, text),
+    match epoch_of(&text[p.from..p.to], state.utc) {
+        None => p,
+        Some(_) => first_wrong(spans, text),
     }
 }
 
@@ -135,11 +119,8 @@ fn value_part(state: State, text: &[u8]) -> Span
     ensures { result ≡ value_part state text.now }
 {
     match lines::assignment_of(text) {
-        Assignment::Parted(x) => {
-            let form = state.form;
-            value_in(kind_in(form, x, text), x.value, text)
-        }
-        Assignment::Other => data_part(state, text),
+        Some(x) => value_in(kind_in(state.form, x, text), x.value, text),
+        None => data_part(state, text),
     }
 }
 
@@ -147,12 +128,10 @@ fn value_part(state: State, text: &[u8]) -> Span
 fn unit_part(text: &[u8]) -> Span
     ensures { result ≡ unit_part text.now }
 {
-    let x = sides_in(text);
-    let p = x.value;
+    let p = sides_in(text).value;
     let from = p.from;
-    let to = p.to;
-    let value = &text[from..to];
-    let n = byte_at(value, 32);
+    let value = &text[from..p.to];
+    let n = byte_at(value, b' ');
     let u = lines::trim(&value[n..]);
     let blanks = u.from;
     let end = u.to;
@@ -167,7 +146,7 @@ fn unit_part(text: &[u8]) -> Span
 pub fn offending_part(state: State, text: &[u8], reason: Reason) -> Span
     ensures { result ≡ offending state text.now reason }
 {
-    match reason_number(reason) {
+    match u32::from(reason) {
         3 => past_long(text),
         4 => first_odd(text),
         6 => keyword_part(text),

@@ -6,19 +6,19 @@ use Rattle.parts.proofs.Laws.{data_bad, data_later}
 use Rattle.parts.proofs.data_part.Goals as goal
 
 pub slice_bounds-epoch_of-count : goal.slice_bounds-epoch_of-count
-slice_bounds-epoch_of-count c = ((fields_inside _ _ c.fields_of-f.ensures).inside 0).order
+slice_bounds-epoch_of-count c = ((fields_inside _ _ c.fields_of.ensures).inside 0).order
 
 pub slice_bounds-epoch_of-start : goal.slice_bounds-epoch_of-start
-slice_bounds-epoch_of-start c = ((fields_inside _ _ c.fields_of-f.ensures).inside 0).order
+slice_bounds-epoch_of-start c = ((fields_inside _ _ c.fields_of.ensures).inside 0).order
 
 pub slice_bounds-epoch_of-end : goal.slice_bounds-epoch_of-end
-slice_bounds-epoch_of-end c = ((fields_inside _ _ c.fields_of-f.ensures).inside 0).end
+slice_bounds-epoch_of-end c = ((fields_inside _ _ c.fields_of.ensures).inside 0).end
 
 pub first_wrong-requires : goal.first_wrong-requires
-first_wrong-requires c = fields_inside _ _ c.fields_of-f.ensures
+first_wrong-requires c = fields_inside _ _ c.fields_of.ensures
 
-pub returns-in-Bad : goal.returns-in-Bad
-returns-in-Bad c = data_bad _ _ _ _ c.fields_of-f.ensures c.epoch_of.ensures c.in-Bad.is
+pub returns-in-None : goal.returns-in-None
+returns-in-None c = data_bad _ _ _ _ c.fields_of.ensures c.epoch_of.ensures c.in-None.is
 
-pub returns-in-At : goal.returns-in-At
-returns-in-At c = c.first_wrong.ensures ∙ data_later _ _ _ _ c.fields_of-f.ensures c.epoch_of.ensures c.in-At.is
+pub returns-in-Some : goal.returns-in-Some
+returns-in-Some c = c.first_wrong.ensures ∙ data_later _ _ _ _ c.fields_of.ensures c.epoch_of.ensures c.in-Some.is
