@@ -1,65 +1,57 @@
 // A feed's messages found and judged, line by line.
 #![tactic(auto)]
 
-ghost use Rattle.std.specs.Prelude.{◌≡◌, true, ◌≤◌, length, drop};
+ghost use Rattle.std.specs.Prelude.{◌≡◌, true, not, ◌&&◌, ◌≤◌, length, drop};
 ghost use Rattle.lines.specs.Feed.{lines, lines_at};
-ghost use Rattle.step.specs.Step.{no_row, fresh_state};
-ghost use Rattle.judge.specs.Message.{is_heading, form_of, from_heading, headings, up_to, texts, end_of, judge_texts, judge_of, count_of, met_of, moved_of, SureNext, feed_limit, found_of, FoundIs, sighted_of, SightedIs};
+ghost use Rattle.step.specs.Step.{fresh_state};
+ghost use Rattle.judge.specs.Message.{of_feed, is_heading, from_heading, headings, up_to, texts, end_of, judge_texts, judge_of, count_of, moved_of, SureNext, feed_limit, found_of, FoundIs, sighted_of, SightedIs};
 
-use grammar::Form;
-use lines::Heading;
+use lines::Form;
 use reasons::Reason;
-use step::{State, Step, Verdict};
+use step::{State, Step};
 
 // A feed has at most so many bytes.
 pub const FEED_LIMIT: usize = 16777215;
 
-// Accepted with its row count, or a reason and a line.
-#[derive(Clone, Copy)]
-pub enum Judged {
-    Accepted(u32),
-    Refused(Reason, u32),
+// Why a message is refused: the reason, and the line, or 0 where it is no line's.
+#[derive(Clone, Copy, Debug, PartialEq, Eq)]
+pub struct Refusal {
+    pub reason: Reason,
+    pub line: u32,
 }
 
-// How many headings a feed has, or why they are not counted.
-#[derive(Clone, Copy)]
-pub enum Counted {
-    Headings(u32),
-    Barred(Reason),
+// A refusal that is no line's.
+impl From<Reason> for Refusal {
+    ghost from_gives = { λ reason refusal. refusal ≡ of_feed reason };
+
+    fn from(reason: Reason) -> Refusal {
+        Refusal { reason, line: 0 }
+    }
 }
 
-// What a walk along a message meets: its end, a line that offends, or a line that is right.
-#[derive(Clone, Copy)]
-pub enum Met {
-    End,
-    Offence(Reason),
-    Within,
-}
-
-// One step of a walk along a message: what it met, the line judged, and the place of the next line.
-#[derive(Clone, Copy)]
+// One step of a walk along a message: the line judged, and the place of the next line.
+#[derive(Clone, Copy, Debug, PartialEq, Eq)]
 pub struct Moved {
-    pub met: Met,
     pub step: Step,
     pub next: usize,
 }
 
-// Where a message starts and its type, or no such message.
-#[derive(Clone, Copy)]
-pub enum Found {
-    Place(usize, Form),
-    Missing,
+// Where a message starts, and its type.
+#[derive(Clone, Copy, Debug, PartialEq, Eq)]
+pub struct Found {
+    pub at: usize,
+    pub form: Form,
 }
 
-// A message judged: where one that is right starts, its type and its row count; else a reason and a line.
-#[derive(Clone, Copy)]
-pub enum Sighted {
-    Right(usize, Form, u32),
-    Wrong(Reason, u32),
+// A message that is right: where it starts, its type and its row count.
+#[derive(Clone, Copy, Debug, PartialEq, Eq)]
+pub struct Sighted {
+    pub found: Found,
+    pub rows: u32,
 }
 
 // A row of the table.
-#[derive(Clone, Copy)]
+#[derive(Clone, Copy, Debug, PartialEq, Eq)]
 pub struct Row {
     pub code: u32,
     pub group: u32,
@@ -71,48 +63,31 @@ pub struct Row {
 fn is_heading(text: &[u8]) -> bool
     ensures { result ≡ is_heading text.now }
 {
-    match lines::heading_of(text) {
-        Heading::Opm => true,
-        Heading::Oem => true,
-        Heading::Nothing => false,
-    }
-}
-
-// The type that a heading line opens.
-fn form_of(text: &[u8]) -> Form
-    ensures { result ≡ form_of text.now }
-{
-    match lines::heading_of(text) {
-        Heading::Opm => Form::Opm,
-        Heading::Oem => Form::Oem,
-        Heading::Nothing => Form::Opm,
-    }
+    lines::heading_of(text).is_some()
 }
 
 // The place of the heading line with this number, from 1.
 #[tactic(auto, using(crate::proofs::Laws::found_now, crate::proofs::Laws::found_there, crate::proofs::Laws::found_later, lines::proofs::Lists::placed))]
-pub fn find_message(feed: &[u8], message: usize) -> Found
+pub fn find_message(feed: &[u8], message: usize) -> Option<Found>
     ensures answer { result ≡ found_of (from_heading message (lines feed.now)) }
     ensures lines { FoundIs result message feed.now }
 {
     if message == 0 {
-        return Found::Missing;
+        return None;
     }
     let mut left = message;
     let mut at = 0;
     while at < feed.len() {
         let ends = lines::line_at(feed, at);
-        let end = ends.end;
-        let text = &feed[at..end];
-        if is_heading(text) {
+        if let Some(form) = lines::heading_of(&feed[at..ends.end]) {
             if left == 1 {
-                return Found::Place(at, form_of(text));
+                return Some(Found { at, form });
             }
             left -= 1;
         }
         at = ends.next;
     }
-    Found::Missing
+    None
 }
 
 // How many heading lines a feed has.
@@ -124,8 +99,7 @@ fn headings_in(feed: &[u8]) -> u32
     let mut at = 0;
     while at < feed.len() {
         let ends = lines::line_at(feed, at);
-        let end = ends.end;
-        if is_heading(&feed[at..end]) {
+        if is_heading(&feed[at..ends.end]) {
             n += 1;
         }
         at = ends.next;
@@ -134,74 +108,63 @@ fn headings_in(feed: &[u8]) -> u32
 }
 
 // How many messages a feed has.
-pub fn count_headings(feed: &[u8]) -> Counted
+pub fn count_headings(feed: &[u8]) -> Result<u32, Reason>
     ensures { result ≡ count_of feed.now }
 {
     if FEED_LIMIT < feed.len() {
-        return Counted::Barred(Reason::FeedLong);
+        return Err(Reason::FeedLong);
     }
-    Counted::Headings(headings_in(feed))
+    Ok(headings_in(feed))
 }
 
-// The next line of a message, judged; shared by judging and by the walks that come behind, which are sure of every line.
-pub fn next_line(feed: &[u8], at: usize, first: bool, state: State, sure: bool) -> Moved
+// A line with which the next message begins; a message's first line is its own, heading or not.
+fn is_over(text: &[u8], first: bool) -> bool
+    ensures { result ≡ (not first && is_heading text.now) }
+{
+    !first && is_heading(text)
+}
+
+// The next line of a message, judged, or none at the message's end; shared by judging and by the walks that come behind, which are sure of every line.
+pub fn next_line(
+    feed: &[u8],
+    at: usize,
+    first: bool,
+    state: State,
+    sure: bool,
+) -> Result<Option<Moved>, Reason>
     requires { SureNext sure state (up_to first (lines_at at (drop at feed.now))) }
     ensures { result ≡ moved_of state at (drop at feed.now) (up_to first (lines_at at (drop at feed.now))) }
 {
     if feed.len() <= at {
-        return over(at, state);
+        return Ok(None);
     }
     let ends = lines::line_at(feed, at);
-    let end = ends.end;
-    let text = &feed[at..end];
-    if !first {
-        if is_heading(text) {
-            return over(at, state);
-        }
+    let text = &feed[at..ends.end];
+    if is_over(text, first) {
+        return Ok(None);
     }
-    let step = state.step(text, sure);
-    let verdict = step.verdict;
-    let met = met_by(verdict);
-    Moved {
-        met,
+    let step = state.step(text, sure)?;
+    Ok(Some(Moved {
         step,
         next: ends.next,
-    }
-}
-
-fn met_by(verdict: Verdict) -> Met
-    ensures { result ≡ met_of verdict }
-{
-    match verdict {
-        Verdict::Wrong(r) => Met::Offence(r),
-        Verdict::Right => Met::Within,
-    }
-}
-
-// The message is over.
-fn over(at: usize, state: State) -> Moved
-    ensures { result ≡ record { met = Met.End; step = no_row state; next = at } }
-{
-    Moved {
-        met: Met::End,
-        step: state.no_row(),
-        next: at,
-    }
+    }))
 }
 
 // At the end of a message: the rows, or SHORT at the line after the last.
-fn end_of(state: State, line: u32, rows: u32) -> Judged
+fn end_of(state: State, line: u32, rows: u32) -> Result<u32, Refusal>
     ensures { result ≡ end_of state line rows }
 {
-    let form = state.form;
-    if grammar::next_of(form, state.last).end {
-        return Judged::Accepted(rows);
+    if grammar::next_of(state.form, state.last).end {
+        return Ok(rows);
     }
-    Judged::Refused(Reason::Short, line)
+    Err(Refusal {
+        reason: Reason::Short,
+        line,
+    })
 }
 
 // The message that starts at a place, judged line by line.
-fn judge_from(feed: &[u8], from: usize, form: Form) -> Judged
+fn judge_from(feed: &[u8], from: usize, form: Form) -> Result<u32, Refusal>
     requires { length feed.now ≤ feed_limit }
     ensures { result ≡ judge_texts (fresh_state form) 1 0 (texts (up_to true (lines_at from (drop from feed.now)))) }
 {
@@ -209,45 +172,36 @@ fn judge_from(feed: &[u8], from: usize, form: Form) -> Judged
     let mut line: u32 = 1;
     let mut rows: u32 = 0;
     let mut state = State::fresh(form);
-    loop {
-        let moved = next_line(feed, at, line == 1, state, false);
-        let met = moved.met;
-        match met {
-            Met::End => return end_of(state, line, rows),
-            Met::Offence(r) => return Judged::Refused(r, line),
-            Met::Within => {}
+    'lines: loop {
+        match next_line(feed, at, line == 1, state, false) {
+            Err(reason) => return Err(Refusal { reason, line }),
+            Ok(None) => return end_of(state, line, rows),
+            Ok(Some(moved)) => {
+                rows += moved.step.count as u32;
+                line += 1;
+                state = moved.step.state;
+                at = moved.next;
+            }
         }
-        let step = moved.step;
-        rows += step.count as u32;
-        line += 1;
-        state = step.state;
-        at = moved.next;
     }
 }
 
 // A message of a feed found and judged, so that a walk that comes behind need not find it again.
-pub fn sight(feed: &[u8], message: usize) -> Sighted
+pub fn sight(feed: &[u8], message: usize) -> Result<Sighted, Refusal>
     ensures answer { result ≡ sighted_of feed.now message }
     ensures judged { SightedIs result message feed.now }
 {
     if FEED_LIMIT < feed.len() {
-        return Sighted::Wrong(Reason::FeedLong, 0);
+        return Err(Reason::FeedLong.into());
     }
-    match find_message(feed, message) {
-        Found::Place(at, form) => match judge_from(feed, at, form) {
-            Judged::Accepted(rows) => Sighted::Right(at, form, rows),
-            Judged::Refused(reason, line) => Sighted::Wrong(reason, line),
-        },
-        Found::Missing => Sighted::Wrong(Reason::NoMessage, 0),
-    }
+    let found = find_message(feed, message).ok_or(Reason::NoMessage)?;
+    let rows = judge_from(feed, found.at, found.form)?;
+    Ok(Sighted { found, rows })
 }
 
-// A message of a feed, judged.
-pub fn judge(feed: &[u8], message: usize) -> Judged
+// A message of a feed, judged: its row count, or why it is refused.
+pub fn judge(feed: &[u8], message: usize) -> Result<u32, Refusal>
     ensures { result ≡ judge_of feed.now message }
 {
-    match sight(feed, message) {
-        Sighted::Right(_, _, rows) => Judged::Accepted(rows),
-        Sighted::Wrong(reason, line) => Judged::Refused(reason, line),
-    }
+    Ok(sight(feed, message)?.rows)
 }

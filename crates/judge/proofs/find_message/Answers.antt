@@ -1,11 +1,12 @@
 -- `judge::find_message` meets its contract. The invariant: the lines from the heading line sought are those from the one still to be counted.
 -- Assumes nothing.
-use mathlib.Core.Path.{refl, sym, ◌∙◌}
+use mathlib.Core.Path.{refl, sym, ap, ◌∙◌}
 use native.Mathlib.Omega.{arith}
 use Rattle.lines.specs.Feed.{lines}
 use Rattle.lines.proofs.Lists.{Placed, placed}
 use Rattle.judge.specs.Message.{found_of, FoundIs}
 use Rattle.judge.proofs.Laws.{over_from, from_none, from_passed}
+use Rattle.std.specs.Prelude.{is_some}
 use Rattle.judge.proofs.find_message.Goals as goal
 
 pub returns-then-message-eq0 : goal.returns-then-message-eq0
@@ -16,21 +17,6 @@ returns-then-message-eq0 c = let e = from_none (lines c.args.feed.now) in
 pub loop-at-init : goal.loop-at-init
 loop-at-init c = (refl, omega arith, omega arith)
 
-pub slice_bounds-text-count : goal.slice_bounds-text-count
-slice_bounds-text-count c =
-    let here : Placed c.args.feed.now c.loop-at.at c.line_at-ends.result = placed _ _ _ c.loop-at-test.true c.line_at-ends.ensures in
-    omega (arith, here)
-
-pub slice_bounds-text-start : goal.slice_bounds-text-start
-slice_bounds-text-start c =
-    let here : Placed c.args.feed.now c.loop-at.at c.line_at-ends.result = placed _ _ _ c.loop-at-test.true c.line_at-ends.ensures in
-    omega (arith, here)
-
-pub slice_bounds-text-end : goal.slice_bounds-text-end
-slice_bounds-text-end c =
-    let here : Placed c.args.feed.now c.loop-at.at c.line_at-ends.result = placed _ _ _ c.loop-at-test.true c.line_at-ends.ensures in
-    omega (arith, here)
-
 pub loop-at-smaller : goal.loop-at-smaller
 loop-at-smaller c =
     let here : Placed c.args.feed.now c.loop-at.at c.line_at-ends.result = placed _ _ _ c.loop-at-test.true c.line_at-ends.ensures in
@@ -40,7 +26,7 @@ pub loop-at-preserved : goal.loop-at-preserved
 loop-at-preserved c =
     let here : Placed c.args.feed.now c.loop-at.at c.line_at-ends.result = placed _ _ _ c.loop-at-test.true c.line_at-ends.ensures in (
       c.loop-at.invariant.0 ∙ from_passed _ _ _ c.loop-at-test.true c.line_at-ends.ensures _
-          (sym c.is_heading.ensures ∙ c.if-is_heading.false),
+          (ap is_some (sym c.heading_of.ensures ∙ c.in_default.is)),
       omega arith,
       omega (arith, here),
     )

@@ -9,8 +9,8 @@ use Rattle.judge.specs.Message.{texts, judge_texts}
 use Rattle.judge.proofs.Laws.{left}
 use Rattle.judge.proofs.judge_from.Given as goal
 
-abbrev pub invariant-loop-r : goal.invariant-loop-r
-invariant-loop-r l = (judge_texts l.initial.state 1 0 (texts (left l.feed l.from true)) ≡ judge_texts l.state l.line l.rows (texts (left l.feed l.at (eqb l.line 1)))) × (1 ≤ l.line) × (l.line ≤ l.at + 1) × (l.rows ≤ 7 * l.line)
+abbrev pub invariant-lines : goal.invariant-lines
+invariant-lines l = (judge_texts l.initial.state 1 0 (texts (left l.feed l.from true)) ≡ judge_texts l.state l.line l.rows (texts (left l.feed l.at (eqb l.line 1)))) × (1 ≤ l.line) × (l.line ≤ l.at + 1) × (l.rows ≤ 7 * l.line)
 
-abbrev pub decreases-loop-r : goal.decreases-loop-r
-decreases-loop-r l = length l.feed - l.at
+abbrev pub decreases-lines : goal.decreases-lines
+decreases-lines l = length l.feed - l.at
