@@ -13,9 +13,7 @@ use Rattle.lines.specs.declared.Span.{Span}
 use Rattle.lines.proofs.Lists.{lines_from_lem, lines_shift}
 use Rattle.step.specs.Step.{fresh_state, step_of}
 use Rattle.step.specs.declared.State.{State}
-use Rattle.judge.specs.Message.{is_heading, form_of, from_heading, headings, up_to, message_of, texts, judge_texts, judge_lines, feed_limit, judge_of, group_of, rows_at, rows_from, rows_lines, rows_of}
-use Rattle.judge.specs.declared.Judged.{Judged}
-use Rattle.judge.specs.declared.Judged.TheVariants.{Accepted, Refused}
+use Rattle.judge.specs.Message.{is_heading, form_of, from_heading, headings, up_to, message_of, texts, judge_texts, judge_lines, feed_limit, judge_of, group_of, rows_at, rows_from, rows_lines, rows_of, refused}
 use Rattle.tables.specs.Table.{host_row, table_bytes}
 use Rattle.desk.specs.Placing.{top_load, desk_after, place_of, place_table}
 use Rattle.rows.specs.Filled.{room_for}
@@ -23,6 +21,8 @@ use Rattle.desk.specs.declared.Desk.{Desk}
 use Rattle.demands.proofs.Placing.{answer_free, desk_free, placing_fills}
 use Rattle.judge.specs.declared.Row.{Row}
 use Rattle.demands.specs.Healing.{moved_row, from_there, Healing, HealingPlaced}
+use Rattle.std.specs.Prelude.{Result, Ok}
+use Rattle.judge.specs.declared.Refusal.{Refusal}
 
 -- ---- headings that stand before are passed
 
@@ -130,14 +130,14 @@ healing f q limit s =
     }
 
 -- the count goes by the answer alone
-same_count : (d₁ d₂ : Desk) (j : Judged) → (desk_after d₁ j).count ≡ (desk_after d₂ j).count
+same_count : (d₁ d₂ : Desk) (j : Result ℕ Refusal) → (desk_after d₁ j).count ≡ (desk_after d₂ j).count
 unfolding desk_after
-same_count d₁ d₂ (Refused r l) = refl
-same_count d₁ d₂ (Accepted n) = refl
+same_count d₁ d₂ (refused r l) = refl
+same_count d₁ d₂ (Ok n) = refl
 
 -- a table after an acceptance, by the rows that the message has
 table_by : (f : List ℕ) (k n : ℕ) (rs : List Row) → rows_of f k ≡ rs → (d : Desk) (t : List ℕ) → (d.load.0 ≡ top_load → ⊥)
-    → (place_of d f k (length t)).answer ≡ Accepted n → place_table d f k t ≡ table_bytes rs ++ drop (host_row * n) t
+    → (place_of d f k (length t)).answer ≡ Ok n → place_table d f k t ≡ table_bytes rs ++ drop (host_row * n) t
 table_by f k n rs r d t h e = (placing_fills d f k t n e).2 ∙ ap (λ (x : List Row). table_bytes x ++ drop (host_row * n) t) r
 
 pub healing_placed : HealingPlaced

@@ -15,16 +15,15 @@ use Rattle.reasons.specs.declared.Reason.TheVariants as Reasons
 use Rattle.lines.specs.declared.Form.{Form}
 use Rattle.step.specs.Step.{fresh_state, step_of}
 use Rattle.step.specs.declared.State.{State}
-use Rattle.step.specs.declared.Verdict.{Verdict}
-use Rattle.step.specs.declared.Verdict.TheVariants.{Right, Wrong}
-use Rattle.judge.specs.Message.{is_heading, feed_limit, met_of, moved_of, FoundIs}
+use Rattle.judge.specs.Message.{is_heading, feed_limit, met_of, moved_of, FoundIs, refused}
 use Rattle.judge.specs.declared.Found.TheVariants.{Place, Missing}
-use Rattle.judge.specs.declared.Judged.TheVariants.{Refused}
 use Rattle.judge.specs.declared.Met.TheVariants.{End, Offence, Within}
 use Rattle.judge.specs.declared.Moved.{Moved}
 use Rattle.judge.proofs.Laws.{left, line_at, none_left, text_left, line_left, line-text, up_stop, up_more, moved_more, walk_on, walk_end, verdict}
 use Rattle.explain.specs.Explain.{plainly, blamed, ended, explain_from, explain_lines, explain_of}
 use Rattle.explain.specs.declared.Explained.{Explained}
+use Rattle.std.specs.Prelude.{Result, Ok, Err, ⊤}
+use mathlib.Core.Unit.{tt}
 
 module _ (f : List ℕ) (at : ℕ) (first : Bool) (st : State) (m : Moved) (q : m ≡ moved_of st at (drop at f) (left f at first)) where
   abbrev ends : Ends
@@ -44,7 +43,7 @@ module _ (f : List ℕ) (at : ℕ) (first : Bool) (st : State) (m : Moved) (q : 
       go true z = refl
       go false z = cc (p, up_more f at ends h refl first z)
 
-  module _ (v : Verdict) (p : m.met ≡ met_of v) where
+  module _ (v : Result ⊤ Reason) (p : m.met ≡ met_of v) where
     inside : at < length f
     inside = let w = walk_on f at first st m q v p in omega (arith, w.on, w.next)
 
@@ -82,23 +81,23 @@ module _ (f : List ℕ) (at : ℕ) (first : Bool) (st : State) (m : Moved) (q : 
 
     pub explained_wrong : (r : Reason) → m.met ≡ Offence r → here ≡ blamed st line (line_at f at ends) r
     unfolding explain_from
-    explained_wrong r p = rw (line_left f at ends (inside (Wrong r) p) refl) (rw (goes (Wrong r) p, explain_from) (rw (judged (Wrong r) p, explain_from)))
+    explained_wrong r p = rw (line_left f at ends (inside (Err r) p) refl) (rw (goes (Err r) p, explain_from) (rw (judged (Err r) p, explain_from)))
 
     pub explained_right : m.met ≡ Within
         → here ≡ explain_from (length f) false m.step.state (line + 1) (rows + m.step.count) (lines_at m.next (drop m.next f))
     unfolding explain_from
     explained_right p =
-        rw (line_left f at ends (inside Right p) refl) (rw (goes Right p, explain_from) (rw (judged Right p, explain_from) (rw (by Right p))))
+        rw (line_left f at ends (inside (Ok tt) p) refl) (rw (goes (Ok tt) p, explain_from) (rw (judged (Ok tt) p, explain_from) (rw (by (Ok tt) p))))
 
 -- ---- a message by its number
 
 module _ (f : List ℕ) (k : ℕ) where
-  pub explain_long : feed_limit < length f → explain_of f k ≡ plainly (Refused Reasons.FeedLong 0)
+  pub explain_long : feed_limit < length f → explain_of f k ≡ plainly (refused Reasons.FeedLong 0)
   unfolding explain_of
   explain_long h = rw (lt-ltb _ _ h, explain_of)
 
   module _ (h : length f ≤ feed_limit) where
-    pub explain_missing : FoundIs Missing k f → explain_of f k ≡ plainly (Refused Reasons.NoMessage 0)
+    pub explain_missing : FoundIs Missing k f → explain_of f k ≡ plainly (refused Reasons.NoMessage 0)
     unfolding explain_of FoundIs explain_lines
     explain_missing q = rw (le-ltb _ _ h, explain_of) (rw q)
 

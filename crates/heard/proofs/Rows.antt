@@ -18,8 +18,6 @@ use Rattle.lines.specs.declared.Span.{Span}
 use Rattle.values.specs.Number.{is_number, is_integer, is_text, is_version}
 use Rattle.epochs.specs.Epoch.{epoch_of}
 use Rattle.epochs.specs.declared.Instant.{Instant}
-use Rattle.epochs.specs.declared.Epoch.{Epoch}
-use Rattle.epochs.specs.declared.Epoch.TheVariants.{At, Bad}
 use Rattle.grammar.specs.Rows.{pick}
 use Rattle.grammar.specs.Keywords.{kinds, kind_of, is_unit}
 use Rattle.grammar.proofs.Laws.{picks}
@@ -31,10 +29,8 @@ use Rattle.reasons.specs.declared.Reason.TheVariants as Reasons
 use Rattle.step.specs.Step.{wrong, one_row, part, Inside, are_numbers, whole_of, word_len, number_of, is_early, past_time, time_of, sixty_stands, value_of, meta_code, step_of}
 use Rattle.step.specs.declared.State.{State}
 use Rattle.step.specs.declared.Step.{Step}
-use Rattle.step.specs.declared.Verdict.TheVariants.{Right}
 use Rattle.step.proofs.Laws.{word-le, part_length, sides_inside, fields_inside}
 use Rattle.judge.specs.Message.{judge_texts, message_of, rows_lines, rows_of}
-use Rattle.judge.specs.declared.Judged.TheVariants.{Accepted}
 use Rattle.judge.specs.declared.Row.{Row}
 use Rattle.judge.proofs.Laws.{accepted_short}
 use Rattle.write.specs.Plain.{Item, item, item_of}
@@ -47,6 +43,8 @@ use Rattle.written.proofs.Writing.{shows}
 use Rattle.heard.specs.Heard.{AllPlain, RightIn, RightOf, IsHeard, RowHeard, RowsSaid}
 use Rattle.heard.proofs.Epochs.{plain}
 use Rattle.heard.proofs.Heard.{all_said}
+use Rattle.std.specs.Prelude.{Option, Some, None, Ok}
+use mathlib.Core.Unit.{tt}
 
 -- a META line's row, or one whose value is right
 abbrev Fit : Item → Type 0
@@ -54,7 +52,7 @@ Fit i = ((i.code ≡ 37) ⊎ (i.code ≡ 44)) ⊎ (RightOf i.code i.value × (le
 
 -- a step that is right has such rows only
 abbrev Fits : List ℕ → Step → Type 0
-Fits s x = x.verdict ≡ Right → Each Fit (items_of x s)
+Fits s x = x.verdict ≡ Ok tt → Each Fit (items_of x s)
 
 module _ (st : State) (s : List ℕ) (k : Clean st s) where
   -- a part of the line is no longer than it, and has plain bytes
@@ -94,13 +92,13 @@ module _ (st : State) (s : List ℕ) (k : Clean st s) where
     unfolding time_of items_in
     time_fits q = go (epoch_of v (sixty_stands st c)) refl
       where
-        go : (e : Epoch) → epoch_of v (sixty_stands st c) ≡ e
+        go : (e : Option Instant) → epoch_of v (sixty_stands st c) ≡ e
             → Fits s (elim e [
-              | Bad ↦ wrong st Reasons.Value
-              | At t ↦ elim (is_early st c t) [ true ↦ wrong st Reasons.TimeOrder | false ↦ one_row (past_time st c t) c p ]
+              | None ↦ wrong st Reasons.Value
+              | Some t ↦ elim (is_early st c t) [ true ↦ wrong st Reasons.TimeOrder | false ↦ one_row (past_time st c t) c p ]
             ])
-        go Bad r = offends
-        go (At t) r =
+        go None r = offends
+        go (Some t) r =
             whether (Fits s) (is_early st c t) (λ b. offends)
             (λ b x. fit (subst (λ (m : Kind). RightIn m v) (sym q) (sixty_stands st c, t, r)))
 
@@ -134,7 +132,7 @@ module _ (st : State) (s : List ℕ) (k : Clean st s) where
       ((fit c p (subst (λ (m : Kind). RightIn m (part p s)) q a.0)).0, numbers_fit ps (c + 1) (omega arith) (omega arith) a.1)
 
   -- behind its epoch, code 9
-  seven_fit : (ps : List Span) → length ps ≡ 7 → (sixty : Bool) (t : Instant) → epoch_of (part (get_or ps 0 no_span) s) sixty ≡ At t → are_numbers (drop 1 ps) s ≡ true
+  seven_fit : (ps : List Span) → length ps ≡ 7 → (sixty : Bool) (t : Instant) → epoch_of (part (get_or ps 0 no_span) s) sixty ≡ Some t → are_numbers (drop 1 ps) s ≡ true
       → Each Fit (items_in 9 (parts s (take 7 ps)))
   unfolding items_in pick
   seven_fit [] n sixty t e a = absurd (omega arith)
@@ -157,7 +155,7 @@ module _ (st : State) (s : List ℕ) (k : Clean st s) where
 
 -- ---- so each row of an accepted message
 
-texts_fit : (ts : List (List ℕ)) (st : State) (line rows n : ℕ) → judge_texts st line rows ts ≡ Accepted n → Each Fit (items_texts st ts)
+texts_fit : (ts : List (List ℕ)) (st : State) (line rows n : ℕ) → judge_texts st line rows ts ≡ Ok n → Each Fit (items_texts st ts)
 unfolding items_texts
 texts_fit [] st line rows n e = tt
 texts_fit (t ∷ ts) st line rows n e =

@@ -20,18 +20,18 @@ use Rattle.step.specs.Step.{fresh_state, step_of}
 use Rattle.reasons.specs.declared.Reason.TheVariants as Reasons
 use Rattle.step.specs.declared.State.{State}
 use Rattle.step.specs.declared.Step.{Step}
-use Rattle.step.specs.declared.Verdict.{Verdict}
-use Rattle.step.specs.declared.Verdict.TheVariants.{Right, Wrong}
 use Rattle.step.proofs.Sound.{Spans, spans}
-use Rattle.judge.specs.Message.{feed_limit, form_of, texts, end_of, judge_texts, judge_lines, message_of, judge_of, FoundIs, group_of, rows_at, rows_from, rows_lines, rows_of}
+use Rattle.judge.specs.Message.{feed_limit, form_of, texts, end_of, judge_texts, judge_lines, message_of, judge_of, FoundIs, group_of, rows_at, rows_from, rows_lines, rows_of, refused}
 use Rattle.judge.specs.declared.Found.TheVariants.{Place}
-use Rattle.judge.specs.declared.Judged.{Judged}
-use Rattle.judge.specs.declared.Judged.TheVariants.{Accepted, Refused}
 use Rattle.judge.specs.declared.Moved.{Moved}
 use Rattle.judge.specs.declared.Row.{Row}
 use Rattle.judge.proofs.Laws.{left, AtLine, judge_found, not_both, accepted_short, found_rows}
 use Rattle.tables.specs.Table.{host_row, put_row, put_rows}
 use Rattle.rows.specs.Filled.{room_for, StepFits, rows_found, Fillable}
+use Rattle.std.specs.Prelude.{Result, Ok, Err, ⊤}
+use mathlib.Core.Unit.{tt}
+use Rattle.reasons.specs.declared.Reason.{Reason}
+use Rattle.judge.specs.declared.Refusal.{Refusal}
 
 -- ---- a line's rows
 
@@ -102,24 +102,24 @@ unfolding put_rows rows_from
 fill_end st g line n t ls e = rw e
 
 -- a message that is accepted has as many rows as it was accepted with
-accepted : (ls : List Line) (st : State) (g line n total : ℕ) → judge_texts st line n (texts ls) ≡ Accepted total
+accepted : (ls : List Line) (st : State) (g line n total : ℕ) → judge_texts st line n (texts ls) ≡ Ok total
     → n + length (rows_from st g line ls) ≡ total
 unfolding judge_texts rows_from end_of
 accepted [] st g line n total = go (next_of st.form st.last).end
   where
-    go : (t : Bool) → elim t [ true ↦ Accepted n | false ↦ Refused Reasons.Short line ] ≡ Accepted total → n + 0 ≡ total
+    go : (t : Bool) → elim t [ true ↦ Ok n | false ↦ refused Reasons.Short line ] ≡ Ok total → n + 0 ≡ total
     go true e = let q : n ≡ total = cc in omega arith
     go false e = absurd (not_both e refl)
 accepted (l ∷ ls) st g line n total =
     let x = step_of st l.text in
     go x.verdict (accepted ls x.state (group_of st.form g x.code) (line + 1) (n + x.count) total)
   where
-    go : (v : Verdict) → let x = step_of st l.text in let h = group_of st.form g x.code in
-        (judge_texts x.state (line + 1) (n + x.count) (texts ls) ≡ Accepted total → n + x.count + length (rows_from x.state h (line + 1) ls) ≡ total)
-        → elim v [ Wrong r ↦ Refused r line | Right ↦ judge_texts x.state (line + 1) (n + x.count) (texts ls) ] ≡ Accepted total
+    go : (v : Result ⊤ Reason) → let x = step_of st l.text in let h = group_of st.form g x.code in
+        (judge_texts x.state (line + 1) (n + x.count) (texts ls) ≡ Ok total → n + x.count + length (rows_from x.state h (line + 1) ls) ≡ total)
+        → elim v [ Err r ↦ refused r line | Ok tt ↦ judge_texts x.state (line + 1) (n + x.count) (texts ls) ] ≡ Ok total
         → n + length (rows_at x.code h line l.start (take x.count x.spans) ++ rows_from x.state h (line + 1) ls) ≡ total
-    go (Wrong r) ih e = absurd (not_both e refl)
-    go Right ih e = simp length-append (rw (row_count st l.text _ refl) (omega (arith, ih e)))
+    go (Err r) ih e = absurd (not_both e refl)
+    go (Ok tt) ih e = simp length-append (rw (row_count st l.text _ refl) (omega (arith, ih e)))
 
 -- the walk is at a line
 module _ (f : List ℕ) (at : ℕ) (first : Bool) (st : State) (m : Moved) (w : AtLine f at first st m) where
@@ -142,12 +142,12 @@ group_le Oem g c = next_le (eqb c 37) g
 
 -- ---- a message by its number
 
-rows-lines : (ls : List Line) (n : ℕ) → judge_lines ls ≡ Accepted n → length (rows_lines ls) ≡ n
+rows-lines : (ls : List Line) (n : ℕ) → judge_lines ls ≡ Ok n → length (rows_lines ls) ≡ n
 unfolding judge_lines rows_lines
 rows-lines [] n e = absurd (not_both e refl)
 rows-lines (l ∷ ls) n e = omega (arith, accepted (l ∷ ls) (fresh_state (form_of l.text)) 0 1 0 n e)
 
-module _ (f : List ℕ) (k n : ℕ) (e : judge_of f k ≡ Accepted n) where
+module _ (f : List ℕ) (k n : ℕ) (e : judge_of f k ≡ Ok n) where
   -- it has as many rows as it was accepted with
   pub rows_count : length (rows_of f k) ≡ n
   unfolding judge_of
@@ -164,20 +164,20 @@ module _ (f : List ℕ) (k n : ℕ) (e : judge_of f k ≡ Accepted n) where
 -- ---- a table's room
 
 module _ (bytes n : ℕ) where
-  pub no_room : bytes < host_row * n → Refused Reasons.NoRoom 0 ≡ room_for bytes (Accepted n)
+  pub no_room : bytes < host_row * n → refused Reasons.NoRoom 0 ≡ room_for bytes (Ok n)
   unfolding room_for
   no_room h = rw (lt-ltb _ _ h, room_for)
 
-  pub room_enough : host_row * n ≤ bytes → Accepted n ≡ room_for bytes (Accepted n)
+  pub room_enough : host_row * n ≤ bytes → Ok n ≡ room_for bytes (Ok n)
   unfolding room_for
   room_enough h = rw (le-ltb _ _ h, room_for)
 
 -- an acceptance with room is one of the judge, and has the room
-pub room-right : (bytes : ℕ) (j : Judged) (n : ℕ) → Accepted n ≡ room_for bytes j → (j ≡ Accepted n) × (host_row * n ≤ bytes)
+pub room-right : (bytes : ℕ) (j : Result ℕ Refusal) (n : ℕ) → Ok n ≡ room_for bytes j → (j ≡ Ok n) × (host_row * n ≤ bytes)
 unfolding room_for
-room-right bytes (Refused r l) n = λ e. absurd (not_both (sym e) refl)
-room-right bytes (Accepted m) n = go (ltb bytes (host_row * m)) refl
+room-right bytes (refused r l) n = λ e. absurd (not_both (sym e) refl)
+room-right bytes (Ok m) n = go (ltb bytes (host_row * m)) refl
   where
-    go : (t : Bool) → ltb bytes (host_row * m) ≡ t → Accepted n ≡ elim t [ true ↦ Refused Reasons.NoRoom 0 | false ↦ Accepted m ] → (Accepted m ≡ Accepted n) × (host_row * n ≤ bytes)
+    go : (t : Bool) → ltb bytes (host_row * m) ≡ t → Ok n ≡ elim t [ true ↦ refused Reasons.NoRoom 0 | false ↦ Ok m ] → (Ok m ≡ Ok n) × (host_row * n ≤ bytes)
     go true q e = absurd (not_both (sym e) refl)
     go false q e = let z : n ≡ m = cc in (sym e, rw z (ltb-false _ _ q))

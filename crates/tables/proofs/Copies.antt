@@ -14,8 +14,9 @@ use borrow.Author.Tests.{lt-ltb, le-ltb}
 use Rattle.reasons.specs.declared.Reason.TheVariants as Reasons
 use Rattle.tables.specs.Table.{host_width, recorded_width, entry_bytes, entry_at}
 use Rattle.tables.specs.Widths.{entries_in, rewritten, copied, some_wide, widen_of, narrow_of, made_by, widened, narrowed}
-use Rattle.tables.specs.declared.Resized.TheVariants.{Done, Refused}
 use Rattle.tables.proofs.Entries.{bytes-length}
+use Rattle.std.specs.Prelude.{Ok, Err}
+use mathlib.Core.Unit.{tt}
 
 -- stores behind some bytes
 sets_behind : (a s e : List ℕ) → length e ≤ length s → sets (a ++ s) (length a) e ≡ a ++ (e ++ drop (length e) s)
@@ -90,24 +91,24 @@ module _ (u : List ℕ) (i k : ℕ) where
 
 module _ (t u : List ℕ) where
   module _ (e : eqb (entries_in recorded_width t) (entries_in host_width u) ≡ false) where
-    pub widen_unlike : (Refused Reasons.NoRoom ≡ widen_of t u) × (u ≡ widened t u)
+    pub widen_unlike : (Err Reasons.NoRoom ≡ widen_of t u) × (u ≡ widened t u)
     unfolding widen_of made_by
     widen_unlike = (rw (e, widen_of), rw (e, widen_of))
 
-    pub narrow_unlike : (Refused Reasons.NoRoom ≡ narrow_of u t) × (t ≡ narrowed u t)
+    pub narrow_unlike : (Err Reasons.NoRoom ≡ narrow_of u t) × (t ≡ narrowed u t)
     unfolding narrow_of made_by
     narrow_unlike = (rw (e, narrow_of), rw (e, narrow_of))
 
   module _ (e : eqb (entries_in recorded_width t) (entries_in host_width u) ≡ true) where
-    pub widen_done : (x : List ℕ) → x ≡ copied recorded_width host_width t u → (Done ≡ widen_of t u) × (x ≡ widened t u)
+    pub widen_done : (x : List ℕ) → x ≡ copied recorded_width host_width t u → (Ok tt ≡ widen_of t u) × (x ≡ widened t u)
     unfolding widen_of made_by
     widen_done x q = (rw (e, widen_of), rw (e, widen_of) q)
 
-    pub narrow_wide : true ≡ some_wide u 0 (entries_in host_width u) → (Refused Reasons.Wide ≡ narrow_of u t) × (t ≡ narrowed u t)
+    pub narrow_wide : true ≡ some_wide u 0 (entries_in host_width u) → (Err Reasons.Wide ≡ narrow_of u t) × (t ≡ narrowed u t)
     unfolding narrow_of made_by
     narrow_wide q = (rw (e, narrow_of) (rw (← q)), rw (e, narrow_of) (rw (← q)))
 
     pub narrow_done : false ≡ some_wide u 0 (entries_in host_width u) → (x : List ℕ) → x ≡ copied host_width recorded_width u t
-        → (Done ≡ narrow_of u t) × (x ≡ narrowed u t)
+        → (Ok tt ≡ narrow_of u t) × (x ≡ narrowed u t)
     unfolding narrow_of made_by
     narrow_done q x r = (rw (e, narrow_of) (rw (← q)), rw (e, narrow_of) (rw (← q) r))

@@ -13,7 +13,6 @@ use Rattle.words.proofs.Laws.{begins-le, begins-take}
 use Rattle.lines.specs.Feed.{Line}
 use Rattle.lines.specs.Text.{is_blank, blanks, cut_end, trim_of, comment_of, heads, heading_of}
 use Rattle.lines.specs.declared.Span.{Span}
-use Rattle.lines.specs.declared.Comment.TheVariants.{Other}
 use Rattle.lines.specs.declared.Heading.{Heading}
 use Rattle.lines.specs.declared.Heading.TheVariants as Kinds
 use Rattle.lines.proofs.Laws.{comment_other}
@@ -25,15 +24,15 @@ use Rattle.grammar.specs.declared.Next.{Next}
 use Rattle.step.specs.Step.{fresh_state, fits_here, step_of}
 use Rattle.step.specs.declared.State.{State}
 use Rattle.step.specs.declared.Step.{Step}
-use Rattle.step.specs.declared.Verdict.{Verdict}
-use Rattle.step.specs.declared.Verdict.TheVariants.{Right, Wrong}
 use Rattle.step.proofs.Sound.{spans}
-use Rattle.judge.specs.Message.{is_one, is_heading, from_heading, texts, judge_texts}
-use Rattle.judge.specs.declared.Judged.TheVariants.{Accepted, Refused}
+use Rattle.judge.specs.Message.{is_one, is_heading, from_heading, texts, judge_texts, refused}
 use Rattle.judge.proofs.Laws.{not_both}
 use Rattle.write.specs.Plain.{Item, item, type_of}
 use Rattle.write.specs.Inner.{held, items_at, items_from}
 use Rattle.write.proofs.Readings.{whether, value_stood, Reads, blank, comment, meta, assign, fields, read}
+use Rattle.std.specs.Prelude.{None, Result, Ok, Err, ⊤}
+use mathlib.Core.Unit.{tt}
+use Rattle.reasons.specs.declared.Reason.{Reason}
 
 -- ---- a heading line has a row, and is no comment
 
@@ -49,7 +48,7 @@ cut_none (b ∷ s) =
     (λ q h. absurd (omega arith))
 
 abbrev pub Filled : List ℕ → Type 0
-Filled s = ((trim_of s).to ≡ 0 → ⊥) × (comment_of s ≡ Other)
+Filled s = ((trim_of s).to ≡ 0 → ⊥) × (comment_of s ≡ None)
 
 -- both headings begin with `CC`
 heads_filled : (w s : List ℕ) → heads (67 ∷ 67 ∷ w) s ≡ true → Filled s
@@ -108,26 +107,26 @@ from_head (a ∷ ls) k l rest e =
     whether P (is_heading a.text) (λ q. whether P (eqb k 1) (λ u z. let y : a ≡ l = cc in rw (← y) q) (λ u. from_head ls (k - 1) l rest)) (λ q. from_head ls k l rest) e
 
 -- what is accepted has a right first line, and the rest is accepted
-pub first_right : (st : State) (ln n total : ℕ) (t : List ℕ) (ts : List (List ℕ)) → judge_texts st ln n (t ∷ ts) ≡ Accepted total
-    → ((step_of st t).verdict ≡ Right) × (judge_texts (step_of st t).state (ln + 1) (n + (step_of st t).count) ts ≡ Accepted total)
+pub first_right : (st : State) (ln n total : ℕ) (t : List ℕ) (ts : List (List ℕ)) → judge_texts st ln n (t ∷ ts) ≡ Ok total
+    → ((step_of st t).verdict ≡ Ok tt) × (judge_texts (step_of st t).state (ln + 1) (n + (step_of st t).count) ts ≡ Ok total)
 unfolding judge_texts
 first_right st ln n total t ts = go (step_of st t).verdict refl
   where
-    go : (v : Verdict) → (step_of st t).verdict ≡ v
-        → elim v [ Wrong r ↦ Refused r ln | Right ↦ judge_texts (step_of st t).state (ln + 1) (n + (step_of st t).count) ts ] ≡ Accepted total
-        → ((step_of st t).verdict ≡ Right) × (judge_texts (step_of st t).state (ln + 1) (n + (step_of st t).count) ts ≡ Accepted total)
-    go (Wrong r) q e = absurd (not_both e refl)
-    go Right q e = (q, e)
+    go : (v : Result ⊤ Reason) → (step_of st t).verdict ≡ v
+        → elim v [ Err r ↦ refused r ln | Ok tt ↦ judge_texts (step_of st t).state (ln + 1) (n + (step_of st t).count) ts ] ≡ Ok total
+        → ((step_of st t).verdict ≡ Ok tt) × (judge_texts (step_of st t).state (ln + 1) (n + (step_of st t).count) ts ≡ Ok total)
+    go (Err r) q e = absurd (not_both e refl)
+    go (Ok tt) q e = (q, e)
 
 -- its row has the code of the message's type
-pub first_code : (form : Form) (t : List ℕ) → is_heading t ≡ true → let x = step_of (fresh_state form) t in x.verdict ≡ Right
+pub first_code : (form : Form) (t : List ℕ) → is_heading t ≡ true → let x = step_of (fresh_state form) t in x.verdict ≡ Ok tt
     → (x.code ≡ head_code form) × (x.count ≡ 1) × (x.state.last ≡ head_code form)
 first_code form t h r = go (read (fresh_state form) t r).1 r
   where
     filled : Filled t
     filled = heading_filled t (λ z. false≢true (sym (ap is_one z) ∙ h))
 
-    go : {x : Step} → Reads (fresh_state form) t x → x.verdict ≡ Right → (x.code ≡ head_code form) × (x.count ≡ 1) × (x.state.last ≡ head_code form)
+    go : {x : Step} → Reads (fresh_state form) t x → x.verdict ≡ Ok tt → (x.code ≡ head_code form) × (x.count ≡ 1) × (x.state.last ≡ head_code form)
     go (blank e) r = absurd (filled.0 e)
     go (comment p e) r = let z : ◌≡◌ {A = ℕ} 0 1 = cc filled.1 in absurd (omega arith)
     go (meta c e z f) r = let k = first_fits form c f in (k, refl, k)
@@ -143,7 +142,7 @@ unfolding items_at
 items_type form c f at [] is e h = absurd (omega arith)
 items_type form c f at (p ∷ ps) is e h = head_type form c (held f at p) is e
 
-pub message_type : (form : Form) (f : List ℕ) (l : Line) (ls : List Line) (n : ℕ) → is_heading l.text ≡ true → judge_texts (fresh_state form) 1 0 (texts (l ∷ ls)) ≡ Accepted n
+pub message_type : (form : Form) (f : List ℕ) (l : Line) (ls : List Line) (n : ℕ) → is_heading l.text ≡ true → judge_texts (fresh_state form) 1 0 (texts (l ∷ ls)) ≡ Ok n
     → type_of (items_from (fresh_state form) f (l ∷ ls)) ≡ form
 unfolding items_from
 message_type form f l ls n h e =

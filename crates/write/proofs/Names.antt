@@ -11,22 +11,21 @@ use borrow.Author.Tests.{eqb-true, eqb-false, leb-true, ltb-true}
 use Rattle.words.specs.Words.{bytes, agrees, is_word}
 use Rattle.words.proofs.Laws.{word-is}
 use Rattle.lines.specs.Text.{equals_at, sides_of, assignment_of}
-use Rattle.lines.specs.declared.Assignment.TheVariants as Assigns
 use Rattle.lines.specs.declared.Sides.{Sides}
 use Rattle.keywords.specs.Keywords.{Entry, keywords, code_in}
 use Rattle.grammar.specs.Rows.{between, pick}
 use Rattle.grammar.specs.Keywords.{assigned as assignedBy, assigns, keyword_of}
 use Rattle.lines.specs.declared.Form.{Form}
 use Rattle.lines.specs.declared.Form.TheVariants.{Opm, Oem}
-use Rattle.grammar.specs.declared.Keyword.TheVariants.{Code}
 use Rattle.grammar.proofs.Laws.{picks}
 use Rattle.step.specs.Step.{past, past_comment, part, meta_code, step_of}
 use Rattle.step.specs.declared.State.{State}
 use Rattle.step.specs.declared.Step.{Step}
-use Rattle.step.specs.declared.Verdict.TheVariants.{Right}
 use Rattle.write.specs.Plain.{word_in, is_field}
 use Rattle.write.specs.Inner.{name_of}
 use Rattle.write.proofs.Readings.{either, whether, value_stood, Reads, blank, comment, meta, assign, fields, read}
+use Rattle.std.specs.Prelude.{Some, None, Ok}
+use mathlib.Core.Unit.{tt}
 
 -- ---- a keyword has its code's word
 
@@ -79,10 +78,10 @@ pub record Assigned (f : Form) (w : List ℕ) (c : ℕ) : Type 0 where
   pub other : (c ≡ 37 → ⊥) × (c ≡ 44 → ⊥) × (c ≡ 45 → ⊥)
   pub field : is_field f c ≡ false
 
-pub assigned : (f : Form) (w : List ℕ) (c : ℕ) → keyword_of f w ≡ Code c → Assigned f w c
+pub assigned : (f : Form) (w : List ℕ) (c : ℕ) → keyword_of f w ≡ Some c → Assigned f w c
 unfolding keyword_of
 assigned f w c =
-    whether (λ k. k ≡ Code c → Assigned f w c) (assigns f (code_in keywords w))
+    whether (λ k. k ≡ Some c → Assigned f w c) (assigns f (code_in keywords w))
     (λ q e.
     let n : code_in keywords w ≡ c = cc in
     let a : assigns f c ≡ true = rw n at q in
@@ -94,14 +93,14 @@ assigned f w c =
 -- ---- a line that is right
 
 -- an assignment's sides are those of its first `=`
-pub parted : (s : List ℕ) (x : Sides) → assignment_of s ≡ Assigns.Parted x → (equals_at s < length s) × (x ≡ sides_of (equals_at s) s)
+pub parted : (s : List ℕ) (x : Sides) → assignment_of s ≡ Some x → (equals_at s < length s) × (x ≡ sides_of (equals_at s) s)
 unfolding assignment_of
 parted s x =
-    whether (λ a. a ≡ Assigns.Parted x → (equals_at s < length s) × (x ≡ sides_of (equals_at s) s)) (ltb (equals_at s) (length s)) (λ q e. (ltb-true _ _ q, cc))
+    whether (λ a. a ≡ Some x → (equals_at s < length s) × (x ≡ sides_of (equals_at s) s)) (ltb (equals_at s) (length s)) (λ q e. (ltb-true _ _ q, cc))
     (λ q e. let z : ◌≡◌ {A = ℕ} 0 1 = cc in absurd (omega arith))
 
 -- what parts an assignment, as the writer finds it
-name_is : (s : List ℕ) (x : Sides) → assignment_of s ≡ Assigns.Parted x → name_of s ≡ part x.keyword s
+name_is : (s : List ℕ) (x : Sides) → assignment_of s ≡ Some x → name_of s ≡ part x.keyword s
 unfolding name_of sides_of
 name_is s x e = ap (λ (y : Sides). part y.keyword s) (sym (parted s x e).1)
 
@@ -153,20 +152,20 @@ comment_either st P h k = go st.form
     go Oem = either P (eqb st.last 9) k h
 
 -- no line changes the message type
-pub form_kept : (st : State) (s : List ℕ) → (step_of st s).verdict ≡ Right → (step_of st s).state.form ≡ st.form
+pub form_kept : (st : State) (s : List ℕ) → (step_of st s).verdict ≡ Ok tt → (step_of st s).state.form ≡ st.form
 form_kept st s r = go (read st s r).1 r
   where
-    go : {x : Step} → Reads st s x → x.verdict ≡ Right → x.state.form ≡ st.form
+    go : {x : Step} → Reads st s x → x.verdict ≡ Ok tt → x.state.form ≡ st.form
     go (blank e) h = refl
     go (comment p e) h = comment_either st (λ u. u.form ≡ st.form) refl refl
     go (meta c e z f) h = refl
     go (assign x c a e f) h = (value_stood st c x.value s h).form
     go (fields t a d) h = refl
 
-pub rowed : (st : State) (s : List ℕ) → (step_of st s).verdict ≡ Right → Rowed st s (step_of st s)
+pub rowed : (st : State) (s : List ℕ) → (step_of st s).verdict ≡ Ok tt → Rowed st s (step_of st s)
 rowed st s r = go (read st s r).1 r
   where
-    go : {x : Step} → Reads st s x → x.verdict ≡ Right → Rowed st s x
+    go : {x : Step} → Reads st s x → x.verdict ≡ Ok tt → Rowed st s x
     go (blank e) h = none refl
     go (comment p e) h = one refl (no_comment_field st.form) (λ a b c. absurd (c refl))
     go (meta c e z f) h = let m = meta_code_lem (meta_line st.form _ c e z) in one refl m.0 (λ a b d. absurd (b (m.1 a)))

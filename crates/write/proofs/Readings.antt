@@ -10,22 +10,14 @@ use lib.ListN.{length, take, drop, get_or}
 use borrow.Author.Tests.{eqb-true, ltb-false, le-ltb, ne_eqb}
 use Rattle.words.proofs.Laws.{run-le}
 use Rattle.lines.specs.Text.{trim_of, comment_of, assignment_of, split_of, no_span, is_long, odd_at, is_odd}
-use Rattle.lines.specs.declared.Assignment.{Assignment}
-use Rattle.lines.specs.declared.Assignment.TheVariants as Assigns
 use Rattle.lines.specs.declared.Span.{Span}
 use Rattle.lines.specs.declared.Sides.{Sides}
-use Rattle.lines.specs.declared.Comment.{Comment}
-use Rattle.lines.specs.declared.Comment.TheVariants.{Value as CommentValue, Other}
 use Rattle.epochs.specs.Epoch.{epoch_of}
 use Rattle.epochs.specs.declared.Instant.{Instant}
-use Rattle.epochs.specs.declared.Epoch.{Epoch as EpochRead}
-use Rattle.epochs.specs.declared.Epoch.TheVariants.{At, Bad}
 use Rattle.grammar.specs.Keywords.{keyword_of, kind_of, is_unit}
 use Rattle.grammar.specs.Rows.{between}
 use Rattle.lines.specs.declared.Form.{Form}
 use Rattle.lines.specs.declared.Form.TheVariants.{Opm, Oem}
-use Rattle.grammar.specs.declared.Keyword.{Keyword}
-use Rattle.grammar.specs.declared.Keyword.TheVariants.{Code, Unknown}
 use Rattle.grammar.specs.declared.Kind.{Kind}
 use Rattle.grammar.specs.declared.Kind.TheVariants.{Version, Text, Integer, Number, Epoch, Nothing}
 use Rattle.values.specs.Number.{is_number, is_text, is_version, is_integer}
@@ -34,10 +26,11 @@ use Rattle.step.specs.declared.State.{State}
 use Rattle.step.specs.declared.Step.{Step}
 use Rattle.reasons.specs.declared.Reason.{Reason}
 use Rattle.reasons.specs.declared.Reason.TheVariants as Reasons
-use Rattle.step.specs.declared.Verdict.TheVariants.{Right, Wrong}
+use Rattle.std.specs.Prelude.{Option, Some, None, Ok, Err}
+use mathlib.Core.Unit.{tt}
 
 -- an offence is not right
-pub offends : {r : Reason} {A : Type 0} → Wrong r ≡ Right → A
+pub offends : {r : Reason} {A : Type 0} → Err r ≡ Ok tt → A
 offends e = let z : ◌≡◌ {A = ℕ} 0 1 = cc in absurd (omega arith)
 
 -- what holds of each arm of a test, its outcome known, holds of the test
@@ -70,16 +63,16 @@ module _ (st : State) (c : ℕ) where
   early_ends t true = off _
   early_ends t false = on _ (either Kept (eqb c 38) (refl, refl) (either Kept (between 39 41 c) (refl, refl) (refl, refl)))
 
-  abbrev timed : EpochRead → Span → Step
+  abbrev timed : Option Instant → Span → Step
   timed e p =
       elim e [
-        | Bad ↦ wrong st Reasons.Value
-        | At t ↦ elim (is_early st c t) [ true ↦ wrong st Reasons.TimeOrder | false ↦ one_row (past_time st c t) c p ]
+        | None ↦ wrong st Reasons.Value
+        | Some t ↦ elim (is_early st c t) [ true ↦ wrong st Reasons.TimeOrder | false ↦ one_row (past_time st c t) c p ]
       ]
 
-  time_ends : (e : EpochRead) → Ends (timed e)
-  time_ends Bad = off _
-  time_ends (At t) = early_ends t (is_early st c t)
+  time_ends : (e : Option Instant) → Ends (timed e)
+  time_ends None = off _
+  time_ends (Some t) = early_ends t (is_early st c t)
 
   -- a value is judged by its bytes alone, or is a number
   pub by_kind : (P : (Span → List ℕ → Step) → Type 0) → ((f : List ℕ → Span → Step) → ((v : List ℕ) → Ends (f v)) → P (λ p s. f (part p s) p)) → P (number_of st c)
@@ -110,14 +103,14 @@ module _ (st : State) (c : ℕ) where
     pub code : x.code ≡ c
     pub count : x.count ≡ 1
 
-  stood : {f : Span → Step} → Ends f → (p : Span) → (f p).verdict ≡ Right → Stood (f p)
+  stood : {f : Span → Step} → Ends f → (p : Span) → (f p).verdict ≡ Ok tt → Stood (f p)
   stood (off r) p e = offends e
   stood (on u k) p e = record { form = k.0; last = k.1; code = refl; count = refl }
 
-  pub value_stood : (p : Span) (s : List ℕ) → (value_of st c p s).verdict ≡ Right → Stood (value_of st c p s)
+  pub value_stood : (p : Span) (s : List ℕ) → (value_of st c p s).verdict ≡ Ok tt → Stood (value_of st c p s)
   unfolding number_of
   value_stood p s =
-      let Good : Step → Type 0 = λ x. x.verdict ≡ Right → Stood x in
+      let Good : Step → Type 0 = λ x. x.verdict ≡ Ok tt → Stood x in
       let v = part p s in
       let r = drop (word_len v) v in
       by_kind (λ J. Good (J p s)) (λ f e. stood (e v) p)
@@ -130,31 +123,31 @@ module _ (st : State) (s : List ℕ) where
     pub form : st.form ≡ Oem
     pub seven : (split_of s).count ≡ 7
     pub fits : fits_here st 9 ≡ true
-    pub epoch : epoch_of (part (get_or (split_of s).spans 0 no_span) s) (sixty_stands st 9) ≡ At t
+    pub epoch : epoch_of (part (get_or (split_of s).spans 0 no_span) s) (sixty_stands st 9) ≡ Some t
     pub numbers : are_numbers (drop 1 (split_of s).spans) s ≡ true
     pub timely : is_timely st t ≡ true
 
   pub data Reads : Step → Type 0 where
     blank : (trim_of s).to ≡ 0 → Reads (no_row st)
-    comment : (p : Span) → comment_of s ≡ CommentValue p → Reads (one_row (past_comment st) 45 p)
+    comment : (p : Span) → comment_of s ≡ Some p → Reads (one_row (past_comment st) 45 p)
     meta : (c : ℕ) → meta_code st.form (part (trim_of s) s) ≡ c → eqb c 0 ≡ false → fits_here st c ≡ true
         → Reads (one_row (past st c) c (record { from = (trim_of s).to; to = (trim_of s).to }))
-    assign : (x : Sides) (c : ℕ) → assignment_of s ≡ Assigns.Parted x → keyword_of st.form (part x.keyword s) ≡ Code c → fits_here st c ≡ true
+    assign : (x : Sides) (c : ℕ) → assignment_of s ≡ Some x → keyword_of st.form (part x.keyword s) ≡ Some c → fits_here st c ≡ true
         → Reads (value_of st c x.value s)
-    fields : (t : Instant) → assignment_of s ≡ Assigns.Other → DataLine t → Reads (seven_rows (past_data st t) (split_of s).spans)
+    fields : (t : Instant) → assignment_of s ≡ None → DataLine t → Reads (seven_rows (past_data st t) (split_of s).spans)
 
   -- where it is right, so is what it read
   abbrev Read : Step → Type 0
-  Read x = x.verdict ≡ Right → Reads x
+  Read x = x.verdict ≡ Ok tt → Reads x
 
-  read_data : assignment_of s ≡ Assigns.Other → Read (fields_of st s)
+  read_data : assignment_of s ≡ None → Read (fields_of st s)
   unfolding fields_of data_of data_at
   read_data n = go st.form refl
     where
-      at : st.form ≡ Oem → (split_of s).count ≡ 7 → fits_here st 9 ≡ true → (e : EpochRead) → epoch_of (part (get_or (split_of s).spans 0 no_span) s) (sixty_stands st 9) ≡ e
-          → Read (elim e [ Bad ↦ wrong st Reasons.Value | At t ↦ data_at st (split_of s) t s ])
-      at a b c Bad e = offends
-      at a b c (At t) e =
+      at : st.form ≡ Oem → (split_of s).count ≡ 7 → fits_here st 9 ≡ true → (e : Option Instant) → epoch_of (part (get_or (split_of s).spans 0 no_span) s) (sixty_stands st 9) ≡ e
+          → Read (elim e [ None ↦ wrong st Reasons.Value | Some t ↦ data_at st (split_of s) t s ])
+      at a b c None e = offends
+      at a b c (Some t) e =
           whether Read (are_numbers (drop 1 (split_of s).spans) s)
           (λ d. whether Read (is_timely st t) (λ f r. fields t n (record { form = a; seven = b; fits = c; epoch = e; numbers = d; timely = f })) (λ f. offends)) (λ d. offends)
 
@@ -163,30 +156,30 @@ module _ (st : State) (s : List ℕ) where
       go Opm a = offends
       go Oem a = whether Read (eqb (split_of s).count 7) (λ b. whether Read (fits_here st 9) (λ c. at a (eqb-true _ _ b) c _ refl) (λ c. offends)) (λ b. offends)
 
-  read_assign : (x : Sides) → assignment_of s ≡ Assigns.Parted x → Read (assign_of st x s)
+  read_assign : (x : Sides) → assignment_of s ≡ Some x → Read (assign_of st x s)
   unfolding assign_of
   read_assign x n = go (keyword_of st.form (part x.keyword s)) refl
     where
-      go : (k : Keyword) → keyword_of st.form (part x.keyword s) ≡ k
-          → Read (elim k [ Unknown ↦ wrong st Reasons.Keyword | Code c ↦ elim (fits_here st c) [ false ↦ wrong st Reasons.Order | true ↦ value_of st c x.value s ] ])
-      go Unknown e = offends
-      go (Code c) e = whether Read (fits_here st c) (λ f r. assign x c n e f) (λ f. offends)
+      go : (k : Option ℕ) → keyword_of st.form (part x.keyword s) ≡ k
+          → Read (elim k [ None ↦ wrong st Reasons.Keyword | Some c ↦ elim (fits_here st c) [ false ↦ wrong st Reasons.Order | true ↦ value_of st c x.value s ] ])
+      go None e = offends
+      go (Some c) e = whether Read (fits_here st c) (λ f r. assign x c n e f) (λ f. offends)
 
   read_plain : Read (plain_of st s)
   unfolding plain_of
   read_plain = go (assignment_of s) refl
     where
-      go : (a : Assignment) → assignment_of s ≡ a → Read (elim a [ Assigns.Parted x ↦ assign_of st x s | Assigns.Other ↦ fields_of st s ])
-      go (Assigns.Parted x) e = read_assign x e
-      go Assigns.Other e = read_data e
+      go : (a : Option Sides) → assignment_of s ≡ a → Read (elim a [ Some x ↦ assign_of st x s | None ↦ fields_of st s ])
+      go (Some x) e = read_assign x e
+      go None e = read_data e
 
   read_filled : Read (filled_of st (trim_of s) s)
   unfolding filled_of uncommented_of meta_of
   read_filled = go (comment_of s) refl
     where
-      go : (c : Comment) → comment_of s ≡ c → Read (elim c [ CommentValue p ↦ one_row (past_comment st) 45 p | Other ↦ uncommented_of st (trim_of s) s ])
-      go (CommentValue p) e = λ r. comment p e
-      go Other e =
+      go : (c : Option Span) → comment_of s ≡ c → Read (elim c [ Some p ↦ one_row (past_comment st) 45 p | None ↦ uncommented_of st (trim_of s) s ])
+      go (Some p) e = λ r. comment p e
+      go None e =
           let c = meta_code st.form (part (trim_of s) s) in
           whether Read (eqb c 0) (λ z. read_plain) (λ z. whether Read (fits_here st c) (λ f r. meta c refl z f) (λ f. offends))
 
@@ -195,10 +188,10 @@ module _ (st : State) (s : List ℕ) where
     pub short : length s ≤ 254
     pub plain : odd_at s ≡ length s
 
-  pub read : (step_of st s).verdict ≡ Right → Clean × Reads (step_of st s)
+  pub read : (step_of st s).verdict ≡ Ok tt → Clean × Reads (step_of st s)
   unfolding step_of
   read =
-      let P : Step → Type 0 = λ x. x.verdict ≡ Right → Clean × Reads x in
+      let P : Step → Type 0 = λ x. x.verdict ≡ Ok tt → Clean × Reads x in
       whether P (is_long s) (λ a. offends)
       (λ a. whether P (ltb (odd_at s) (length s)) (λ b. offends)
       (λ b r. (

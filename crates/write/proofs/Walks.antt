@@ -19,12 +19,10 @@ use Rattle.lines.specs.declared.Form.{Form}
 use Rattle.step.specs.Step.{fresh_state, step_of}
 use Rattle.step.specs.declared.State.{State}
 use Rattle.step.specs.declared.Step.{Step}
-use Rattle.step.specs.declared.Verdict.TheVariants.{Right}
 use Rattle.step.proofs.Sound.{Spans, spans}
 use Rattle.judge.specs.Message.{up_to, texts, judge_texts, judge_of, FoundIs, group_of, rows_at, rows_from, rows_of}
 use Rattle.judge.specs.declared.Moved.{Moved}
 use Rattle.judge.specs.declared.Found.TheVariants.{Place}
-use Rattle.judge.specs.declared.Judged.TheVariants.{Accepted}
 use Rattle.judge.proofs.Laws.{left, line_at, rest as rest_of, line_left, up_more, AtLine, line-text, judge_found, accepted_short, found_rows}
 use Rattle.write.specs.Plain.{Item, item, item_of, comment_lead, lead_of, word_in, behind, plain, type_of, plain_of}
 use Rattle.write.specs.Inner.{Held, held, spaced, values_of, ValuesHeld, Named, leads_of, break_of, line_of, items_at, items_from, written_from, plain_from, Writable}
@@ -32,13 +30,15 @@ use Rattle.write.proofs.Readings.{either}
 use Rattle.write.proofs.Names.{each_word, each_word_lem, Rowed, none, one, seven, rowed, form_kept}
 use Rattle.write.proofs.Heads.{from_head, message_type}
 use Rattle.write.proofs.Turns.{Lined, lined, behind-append, plain-append}
+use Rattle.std.specs.Prelude.{Ok}
+use mathlib.Core.Unit.{tt}
 
 -- the lines left are accepted
 pub record Accepts (st : State) (ls : List Line) : Type 0 where
   pub line : ℕ
   pub rows : ℕ
   pub total : ℕ
-  pub right : judge_texts st line rows (texts ls) ≡ Accepted total
+  pub right : judge_texts st line rows (texts ls) ≡ Ok total
 
 -- ---- a line is short enough to be counted
 
@@ -82,7 +82,7 @@ length_items (p ∷ ps) c f at = ap suc (length_items ps (c + 1) f at)
 
 -- ---- the line in hand
 
-module _ (f : List ℕ) (at : ℕ) (b : Bool) (st : State) (m : Moved) (w : AtLine f at b st m) (v : (step_of st w.text).verdict ≡ Right) where
+module _ (f : List ℕ) (at : ℕ) (b : Bool) (st : State) (m : Moved) (w : AtLine f at b st m) (v : (step_of st w.text).verdict ≡ Ok tt) where
   abbrev x : Step
   x = m.step
 
@@ -182,8 +182,8 @@ end_left false form st f ls e = rw e
 
 -- ---- a message by its number, where it is accepted and found
 
-module _ (f : List ℕ) (k n : ℕ) (e : judge_of f k ≡ Accepted n) (p : ℕ) (form : Form) (q : FoundIs (Place p form) k f) where
-  found_right : judge_texts (fresh_state form) 1 0 (texts (left f p true)) ≡ Accepted n
+module _ (f : List ℕ) (k n : ℕ) (e : judge_of f k ≡ Ok n) (p : ℕ) (form : Form) (q : FoundIs (Place p form) k f) where
+  found_right : judge_texts (fresh_state form) 1 0 (texts (left f p true)) ≡ Ok n
   found_right = sym (judge_found f k (accepted_short f k n e) p form q) ∙ e
 
   pub found_writable : Writable f p form

@@ -1,6 +1,6 @@
 -- What the inner functions put and ask. No public promise speaks of these.
 -- Assumes nothing.
-use Rattle.std.specs.Prelude.{ℕ, ◌+◌, ◌-◌, ◌≤◌, ◌<◌, ◌≡◌, List, [], ◌∷◌, ◌++◌, Bool, true, false, eqb, length, take, drop, get_or}
+use Rattle.std.specs.Prelude.{ℕ, ◌+◌, ◌-◌, ◌≤◌, ◌<◌, ◌≡◌, List, [], ◌∷◌, ◌++◌, Bool, true, false, eqb, length, take, drop, get_or, Ok}
 use Rattle.lines.specs.Feed.{Line, lines_at, text_len}
 use Rattle.lines.specs.Text.{equals_at, trim_of, no_span}
 use Rattle.lines.specs.declared.Span.{Span}
@@ -9,7 +9,6 @@ use Rattle.step.specs.Step.{part, fresh_state, step_of}
 use Rattle.step.specs.declared.State.{State}
 use Rattle.step.specs.declared.Step.{Step}
 use Rattle.judge.specs.Message.{feed_limit, judge_texts, texts, up_to}
-use Rattle.judge.specs.declared.Judged.TheVariants.{Accepted}
 use Rattle.write.specs.Plain.{Item, item, word_of, lead_of, behind, plain}
 
 -- ---- what is put
@@ -84,4 +83,4 @@ plain_from f from form = plain form (items_from (fresh_state form) f (up_to true
 pub record Writable (f : List ℕ) (from : ℕ) (form : Form) : Type 0 where
   pub limit : length f ≤ feed_limit
   pub rows : ℕ
-  pub right : judge_texts (fresh_state form) 1 0 (texts (up_to true (lines_at from (drop from f)))) ≡ Accepted rows
+  pub right : judge_texts (fresh_state form) 1 0 (texts (up_to true (lines_at from (drop from f)))) ≡ Ok rows

@@ -14,21 +14,17 @@ use Rattle.words.specs.Words.{bytes, agrees, begins, run, first_at}
 use Rattle.lines.specs.Text.{is_blank, blanks, cut_end, trim_of, is_odd, odd_at, comment_of, assignment_of, heads, heading_of}
 use Rattle.lines.specs.declared.Span.{Span}
 use Rattle.lines.specs.declared.Sides.{Sides}
-use Rattle.lines.specs.declared.Assignment.TheVariants as Assigns
-use Rattle.lines.specs.declared.Comment.TheVariants.{Value as CommentValue, Other}
 use Rattle.lines.specs.declared.Heading.{Heading}
 use Rattle.lines.specs.declared.Heading.TheVariants as Kinds
 use Rattle.lines.proofs.Laws.{comment_other}
 use Rattle.values.specs.Number.{is_number}
 use Rattle.keywords.specs.Keywords.{keywords}
 use Rattle.grammar.specs.Keywords.{keyword_of, is_unit}
-use Rattle.grammar.specs.declared.Keyword.TheVariants.{Code}
 use Rattle.lines.specs.declared.Form.{Form}
 use Rattle.step.specs.Step.{part, one_row, past, word_len, number_of, value_of, fits_here, past_comment, meta_code, meta_of, assign_of, plain_of, uncommented_of, filled_of, step_of}
 use Rattle.step.specs.declared.State.{State}
 use Rattle.step.specs.declared.Step.{Step}
 use Rattle.step.proofs.Laws.{number_right, word-le}
-use Rattle.step.specs.declared.Verdict.TheVariants.{Right}
 use Rattle.judge.specs.Message.{is_one, is_heading, opens}
 use Rattle.write.specs.Plain.{word_in, comment_lead, lead_of, is_field}
 use Rattle.write.proofs.Readings.{offends, whether, either, Ends, off, on, by_kind, Clean, Reads, blank, comment, meta, assign, fields, read, step_filled}
@@ -38,10 +34,12 @@ use Rattle.write.proofs.Names.{each_word, each_word_lem, assigned as named_by, n
 use Rattle.written.proofs.Bytes.{Passes, pass_cons, pass_split, pass_append, pass_both, pass_part, at_run}
 use Rattle.written.proofs.Spaced.{parts}
 use Rattle.written.proofs.Trimmed.{span, Trimmed, trimmed, trimmed_end, cut_more, part-le, trim_trimmed, word_trimmed, part_whole, Commented, commented, comment_empty, comment_plain, comment_part, sided, assigned, assigned_keyword, assigned-value}
+use Rattle.std.specs.Prelude.{Some, None, Ok}
+use mathlib.Core.Unit.{tt}
 
 -- a step that is right, with other spans
 abbrev pub respan : Step → List Span → Step
-respan x ps = record { verdict = Right; state = x.state; code = x.code; count = x.count; spans = ps }
+respan x ps = record { verdict = Ok tt; state = x.state; code = x.code; count = x.count; spans = ps }
 
 -- the plain text q is judged as the line's text s was, whose step is x
 pub record Again (st : State) (s : List ℕ) (x : Step) (q : List ℕ) : Type 0 where
@@ -79,7 +77,7 @@ cut_append (b ∷ w) x h e =
 
 -- ---- comments
 
-comment_again : (st : State) (s : List ℕ) (p : Span) → comment_of s ≡ CommentValue p → Clean st s → OneAgain st s (one_row (past_comment st) 45 p)
+comment_again : (st : State) (s : List ℕ) (p : Span) → comment_of s ≡ Some p → Clean st s → OneAgain st s (one_row (past_comment st) 45 p)
 unfolding lead_of bytes run filled_of cut_end trim_of
 comment_again st s p e k = record { row = p; first = refl; field = no_comment_field st.form; again = go (part p s) refl }
   where
@@ -103,7 +101,7 @@ comment_again st s p e k = record { row = p; first = refl; field = no_comment_fi
 -- a META line's word is its whole plain line
 record MetaWord (t : List ℕ) (c : ℕ) : Type 0 where
   word : lead_of c true ++ [] ≡ t
-  uncommented : comment_of t ≡ Other
+  uncommented : comment_of t ≡ None
   equals : first_at 61 t ≡ length t
   some : 0 < length t
 
@@ -155,7 +153,7 @@ part_first p n s h =
 
 module _ (st : State) (c : ℕ) where
   -- what is right at one span is the same at another
-  moves : {f : Span → Step} → Ends st c f → (p p' : Span) → (f p).verdict ≡ Right → f p' ≡ one_row (f p).state c p'
+  moves : {f : Span → Step} → Ends st c f → (p p' : Span) → (f p).verdict ≡ Ok tt → f p' ≡ one_row (f p).state c p'
   moves (off r) p p' e = offends e
   moves (on u k) p p' e = refl
 
@@ -168,7 +166,7 @@ module _ (st : State) (c : ℕ) where
 
   module _ (p : Span) (s : List ℕ) (t : Trimmed (part p s)) where
     -- the whole field
-    whole_holds : (f : List ℕ → Span → Step) → ((v : List ℕ) → Ends st c (f v)) → (f (part p s) p).verdict ≡ Right → Holds (λ p q. f (part p q) p) c p s
+    whole_holds : (f : List ℕ → Span → Step) → ((v : List ℕ) → Ends st c (f v)) → (f (part p s) p).verdict ≡ Ok tt → Holds (λ p q. f (part p q) p) c p s
     whole_holds f m r =
         record {
           state = (f (part p s) p).state;
@@ -179,13 +177,13 @@ module _ (st : State) (c : ℕ) where
           again = λ p' q e. (p', rw e (moves (m (part p s)) p p' r), e);
         }
 
-    number_holds : (number_of st c p s).verdict ≡ Right → Holds (number_of st c) c p s
+    number_holds : (number_of st c p s).verdict ≡ Ok tt → Holds (number_of st c) c p s
     unfolding number_of
     number_holds =
         let v = part p s in
         let n = word_len v in
         let r = drop n v in
-        let P : Step → Type 0 = λ x. x.verdict ≡ Right → Holds (number_of st c) c p s in
+        let P : Step → Type 0 = λ x. x.verdict ≡ Ok tt → Holds (number_of st c) c p s in
         let a = part_first p n s (word-le v) in
         let b = (at_run (λ b. not (is_blank b)) v).0 in
         let short : length (take n v) ≤ length v = omega (arith, length-take n v) in
@@ -205,8 +203,8 @@ module _ (st : State) (c : ℕ) where
         (λ e. offends)
 
     -- every kind
-    value_holds : (value_of st c p s).verdict ≡ Right → Holds (value_of st c) c p s
-    value_holds = by_kind st c (λ J. (J p s).verdict ≡ Right → Holds J c p s) whole_holds number_holds
+    value_holds : (value_of st c p s).verdict ≡ Ok tt → Holds (value_of st c) c p s
+    value_holds = by_kind st c (λ J. (J p s).verdict ≡ Ok tt → Holds J c p s) whole_holds number_holds
 
 -- ---- assignments
 
@@ -229,7 +227,7 @@ module _ (w u : List ℕ) (c : ℕ) (word : word_in keywords c ≡ w) (n : first
   text_trimmed : Trimmed text
   text_trimmed = trimmed text (cut_append w (61 ∷ u) (omega arith) (cut_more 61 u (and-false (eqb (cut_end u) 0)) ∙ ap suc (trimmed_end u v))) leads.0
 
-  text_filled : (st : State) → keyword_of st.form w ≡ Code c → fits_here st c ≡ true
+  text_filled : (st : State) → keyword_of st.form w ≡ Some c → fits_here st c ≡ true
       → filled_of st (trim_of text) text ≡ value_of st c (span (length w + 1) (length w + 1 + length u)) text
   unfolding filled_of uncommented_of plain_of assign_of
   text_filled st e f =
@@ -238,8 +236,8 @@ module _ (w u : List ℕ) (c : ℕ) (word : word_in keywords c ≡ w) (n : first
       rw (comment_other text 0 (omega (arith, leads.0)) leads.1, filled_of)
       (rw (text_trimmed, part_whole text, m, uncommented_of) (rw (assigned w u n k v, plain_of) (rw (assigned_keyword w u, e, assign_of) (rw f))))
 
-assign_again : (st : State) (s : List ℕ) (x : Sides) (c : ℕ) → assignment_of s ≡ Assigns.Parted x → keyword_of st.form (part x.keyword s) ≡ Code c
-    → fits_here st c ≡ true → Clean st s → (value_of st c x.value s).verdict ≡ Right → OneAgain st s (value_of st c x.value s)
+assign_again : (st : State) (s : List ℕ) (x : Sides) (c : ℕ) → assignment_of s ≡ Some x → keyword_of st.form (part x.keyword s) ≡ Some c
+    → fits_here st c ≡ true → Clean st s → (value_of st c x.value s).verdict ≡ Ok tt → OneAgain st s (value_of st c x.value s)
 unfolding bytes
 assign_again st s x c a e f k r =
     let w = part x.keyword s in
@@ -265,10 +263,10 @@ assign_again st s x c a e f k r =
 
 -- ---- every line of one row
 
-pub one_again : (st : State) (s : List ℕ) → (step_of st s).verdict ≡ Right → (step_of st s).count ≡ 1 → OneAgain st s (step_of st s)
+pub one_again : (st : State) (s : List ℕ) → (step_of st s).verdict ≡ Ok tt → (step_of st s).count ≡ 1 → OneAgain st s (step_of st s)
 one_again st s r n = let w = read st s r in go w.0 w.1 r n
   where
-    go : {x : Step} → Clean st s → Reads st s x → x.verdict ≡ Right → x.count ≡ 1 → OneAgain st s x
+    go : {x : Step} → Clean st s → Reads st s x → x.verdict ≡ Ok tt → x.count ≡ 1 → OneAgain st s x
     go k (blank e) r n = absurd (omega arith)
     go k (comment p e) r n = comment_again st s p e k
     go k (meta c e z f) r n = meta_again st s c e z f k

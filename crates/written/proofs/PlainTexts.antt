@@ -11,7 +11,6 @@ use lib.ListN.{length, take, drop, replicate, length-append, length-map, length-
 use lib.Seq.{take_all}
 use borrow.Author.Tests.{ne_eqb}
 use Rattle.words.specs.Words.{Each}
-use Rattle.lines.specs.declared.Assignment.TheVariants as Assigns
 use Rattle.lines.specs.Text.{assignment_of, is_odd, split_of, heading_of}
 use Rattle.lines.specs.declared.Span.{Span}
 use Rattle.epochs.specs.declared.Instant.{Instant}
@@ -23,9 +22,7 @@ use Rattle.grammar.proofs.Laws.{below, comes_only, next_only}
 use Rattle.step.specs.Step.{part, no_row, one_row, seven_rows, fresh_state, past_data, past_comment, fits_here, step_of}
 use Rattle.step.specs.declared.State.{State}
 use Rattle.step.specs.declared.Step.{Step}
-use Rattle.step.specs.declared.Verdict.TheVariants.{Right}
 use Rattle.judge.specs.Message.{is_one, is_heading, form_of, end_of, judge_texts, group_of}
-use Rattle.judge.specs.declared.Judged.TheVariants.{Accepted}
 use Rattle.judge.proofs.Laws.{not_both}
 use Rattle.write.specs.Plain.{Item, item, lead_of, is_field, words_of, parting_of, behind as afterItems, plain, type_of}
 use Rattle.write.proofs.Readings.{whether, Stood, value_stood, DataLine, Clean, Reads, blank, comment, meta, assign, fields, read}
@@ -37,6 +34,8 @@ use Rattle.written.proofs.Joined.{Whole, plain_whole}
 use Rattle.written.proofs.Spaced.{parts, split_seven, respaced}
 use Rattle.written.proofs.PlainLine.{Again, OneAgain, one_again, lead_head, lead_other}
 use Rattle.written.proofs.PlainData.{written, data_plain, data_heading}
+use Rattle.std.specs.Prelude.{Some, None, Ok}
+use mathlib.Core.Unit.{tt}
 
 -- ---- rows as they are written, line by line
 
@@ -168,7 +167,7 @@ module _ (st : State) (t : List ℕ) where
         }
 
   -- seven rows
-  module _ (i : Instant) (a : assignment_of t ≡ Assigns.Other) (d : DataLine st t i) (k : Clean st t) where
+  module _ (i : Instant) (a : assignment_of t ≡ None) (d : DataLine st t i) (k : Clean st t) where
     abbrev seven : Step
     seven = seven_rows (past_data st i) (split_of t).spans
 
@@ -198,16 +197,16 @@ module _ (st : State) (t : List ℕ) where
         }
 
   -- a line of one row, its step given
-  one : {x : Step} → step_of st t ≡ x → x.verdict ≡ Right → x.count ≡ 1 → OneAgain st t x
+  one : {x : Step} → step_of st t ≡ x → x.verdict ≡ Ok tt → x.count ≡ 1 → OneAgain st t x
   one q r n = rw q at (one_again st t (rw q r) (rw q n))
 
-  stood_line : {x : Step} → step_of st t ≡ x → x.verdict ≡ Right → (c : ℕ) → fits_here st c ≡ true → Stood st c x → Lines st t x
+  stood_line : {x : Step} → step_of st t ≡ x → x.verdict ≡ Ok tt → (c : ℕ) → fits_here st c ≡ true → Stood st c x → Lines st t x
   stood_line q r c f s = rows (one-plainly s.count (one q r s.count) (stood_follows st c f s))
 
-  line : (step_of st t).verdict ≡ Right → Lines st t (step_of st t)
+  line : (step_of st t).verdict ≡ Ok tt → Lines st t (step_of st t)
   line r = let w = read st t r in go refl w.0 w.1 r
     where
-      go : {x : Step} → step_of st t ≡ x → Clean st t → Reads st t x → x.verdict ≡ Right → Lines st t x
+      go : {x : Step} → step_of st t ≡ x → Clean st t → Reads st t x → x.verdict ≡ Ok tt → Lines st t x
       go q k (blank e) r = none
       go q k (comment p e) r = rows (one-plainly refl (one q r refl) (comment_follows st p))
       go q k (meta c e z f) r = stood_line q r c f (record { form = refl; last = refl; code = refl; count = refl })
@@ -218,7 +217,7 @@ module _ (st : State) (t : List ℕ) where
 
 -- lines that are accepted from a state where n rows have been read, and their plain lines
 pub record Message (st : State) (ts ps : List (List ℕ)) (n total : ℕ) : Type 0 where
-  pub judged : (ln : ℕ) → judge_texts st ln n ps ≡ Accepted total
+  pub judged : (ln : ℕ) → judge_texts st ln n ps ≡ Ok total
   pub items : items_texts st ps ≡ items_texts st ts
   pub groups : (g : ℕ) → groups_texts st g ps ≡ groups_texts st g ts
   pub behind : afterItems st.form (items_texts st ts) ≡ after 10 ps
@@ -230,10 +229,10 @@ abbrev pub PlainMessage : State → List (List ℕ) → ℕ → ℕ → Type 0
 PlainMessage st ts n total = Message st ts (plains st ts) n total
 
 -- the end is the same, whatever its line's number
-end_any : (st : State) (ln n total : ℕ) → end_of st ln n ≡ Accepted total → (ln' : ℕ) → end_of st ln' n ≡ Accepted total
+end_any : (st : State) (ln n total : ℕ) → end_of st ln n ≡ Ok total → (ln' : ℕ) → end_of st ln' n ≡ Ok total
 unfolding end_of
 end_any st ln n total =
-    whether (λ j. j ≡ Accepted total → (ln' : ℕ) → end_of st ln' n ≡ Accepted total) (next_of st.form st.last).end (λ q e ln'. rw (q, end_of) e)
+    whether (λ j. j ≡ Ok total → (ln' : ℕ) → end_of st ln' n ≡ Ok total) (next_of st.form st.last).end (λ q e ln'. rw (q, end_of) e)
     (λ q e. absurd (not_both e refl))
 
 -- a line with no row opens no group
@@ -280,7 +279,7 @@ module _ (st : State) (t : List ℕ) (ts : List (List ℕ)) (n total : ℕ) wher
   message_line q f (rows w) m = message_more q f w m
 
 -- a message that is accepted is accepted in plain form, with the same rows in the same groups
-pub message : (ts : List (List ℕ)) (st : State) (ln n total : ℕ) → judge_texts st ln n ts ≡ Accepted total → PlainMessage st ts n total
+pub message : (ts : List (List ℕ)) (st : State) (ln n total : ℕ) → judge_texts st ln n ts ≡ Ok total → PlainMessage st ts n total
 unfolding judge_texts plains items_texts groups_texts afterItems after
 message [] st ln n total e =
     record {
@@ -315,7 +314,7 @@ pub record Opening (t : List ℕ) (st : State) (x : Step) : Type 0 where
   pub type : (is : List Item) → type_of (items_of x t ++ is) ≡ form_of t
 
 -- a heading line that is right opens a message
-pub opening : (t : List ℕ) → is_heading t ≡ true → let st = fresh_state (form_of t) in (step_of st t).verdict ≡ Right → Opening t st (step_of st t)
+pub opening : (t : List ℕ) → is_heading t ≡ true → let st = fresh_state (form_of t) in (step_of st t).verdict ≡ Ok tt → Opening t st (step_of st t)
 opening t h r =
     let f = form_of t in
     let st = fresh_state f in

@@ -18,7 +18,6 @@ use Rattle.step.specs.declared.State.{State}
 use Rattle.step.specs.declared.Step.{Step}
 use Rattle.step.proofs.Sound.{spans}
 use Rattle.judge.specs.Message.{is_heading, form_of, from_heading, headings, up_to, message_of, texts, judge_texts, judge_lines, feed_limit, judge_of, group_of, rows_at, rows_from, rows_lines, rows_of, FoundIs}
-use Rattle.judge.specs.declared.Judged.TheVariants.{Accepted}
 use Rattle.judge.specs.declared.Row.{Row}
 use Rattle.judge.proofs.Laws.{accepted_short, not_missing}
 use Rattle.write.specs.Plain.{Item, item, item_of, plain, type_of, plain_of}
@@ -30,6 +29,7 @@ use Rattle.written.proofs.Bytes.{after}
 use Rattle.written.proofs.Joined.{lines_joined, Stands, from_stand, Fits, Begins, found}
 use Rattle.written.proofs.Spaced.{parts}
 use Rattle.written.proofs.PlainTexts.{items_in, items_texts, groups_texts, plain_line, plains, plains_more, Message, message, message_plain, Opening, opening}
+use Rattle.std.specs.Prelude.{Ok}
 
 -- ---- rows are what the lines' texts say
 
@@ -111,10 +111,10 @@ alone o t p ps g h r (l ∷ ls) q e =
 
 abbrev Known : List ℕ → ℕ → ℕ → List ℕ → Type 0
 Known f k n o =
-    ((judge_of o 1 ≡ Accepted n) × (map (item_of o) (rows_of o 1) ≡ map (item_of f) (rows_of f k)) × (map (λ (r : Row). r.group) (rows_of o 1) ≡ map (λ (r : Row). r.group) (rows_of f k)))
+    ((judge_of o 1 ≡ Ok n) × (map (item_of o) (rows_of o 1) ≡ map (item_of f) (rows_of f k)) × (map (λ (r : Row). r.group) (rows_of o 1) ≡ map (λ (r : Row). r.group) (rows_of f k)))
     × (headings (lines o) ≡ 1) × (length o ≤ message_bytes f k)
 
-module _ (f : List ℕ) (k n : ℕ) (e : judge_of f k ≡ Accepted n) where
+module _ (f : List ℕ) (k n : ℕ) (e : judge_of f k ≡ Ok n) where
   module _ (l : Line) (ls : List Line) (q : from_heading k (lines f) ≡ l ∷ ls) (h : Fits f l ls) where
     abbrev t : List ℕ
     t = l.text
@@ -135,7 +135,7 @@ module _ (f : List ℕ) (k n : ℕ) (e : judge_of f k ≡ Accepted n) where
     unfolding message_of up_to
     read = shows f k l (up_to false ls) (rw q) t refl
 
-    right : judge_texts st 1 0 (t ∷ ts) ≡ Accepted n
+    right : judge_texts st 1 0 (t ∷ ts) ≡ Ok n
     right = sym (read.judged (accepted_short f k n e)) ∙ e
 
     opened : Opening t st x

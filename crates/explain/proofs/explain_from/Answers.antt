@@ -10,10 +10,11 @@ use lib.ListN.{length, length-take, length-drop}
 use borrow.Author.Tests.{ne_eqb}
 use Rattle.lines.proofs.Lists.{Placed, placed}
 use Rattle.step.proofs.Sound.{spans}
-use Rattle.step.specs.declared.Verdict.TheVariants.{Right, Wrong}
 use Rattle.judge.proofs.Laws.{unsure, walk_on}
 use Rattle.explain.proofs.Walk.{explained_end, explained_wrong, explained_right}
 use Rattle.explain.proofs.explain_from.Goals as goal
+use Rattle.std.specs.Prelude.{Ok, Err}
+use mathlib.Core.Unit.{tt}
 
 pub loop-r-init : goal.loop-r-init
 loop-r-init c = (refl, omega arith, omega arith, omega arith, omega arith)
@@ -28,25 +29,25 @@ returns-in-End c = let l = c.loop-r in
 
 pub slice_bounds-blame-count : goal.slice_bounds-blame-count
 slice_bounds-blame-count c =
-    let placed-there : Placed c.args.feed.now c.loop-r.at c.line_at-ends.result = let w = walk_on _ _ _ _ _ c.next_line-moved.ensures (Wrong _) c.in-Offence.is in
+    let placed-there : Placed c.args.feed.now c.loop-r.at c.line_at-ends.result = let w = walk_on _ _ _ _ _ c.next_line-moved.ensures (Err _) c.in-Offence.is in
     placed _ _ _ (omega (arith, w.on, w.next)) c.line_at-ends.ensures in
     placed-there.start
 
 pub slice_bounds-blame-start : goal.slice_bounds-blame-start
 slice_bounds-blame-start c =
-    let placed-there : Placed c.args.feed.now c.loop-r.at c.line_at-ends.result = let w = walk_on _ _ _ _ _ c.next_line-moved.ensures (Wrong _) c.in-Offence.is in
+    let placed-there : Placed c.args.feed.now c.loop-r.at c.line_at-ends.result = let w = walk_on _ _ _ _ _ c.next_line-moved.ensures (Err _) c.in-Offence.is in
     placed _ _ _ (omega (arith, w.on, w.next)) c.line_at-ends.ensures in
     placed-there.start
 
 pub slice_bounds-blame-end : goal.slice_bounds-blame-end
 slice_bounds-blame-end c =
-    let placed-there : Placed c.args.feed.now c.loop-r.at c.line_at-ends.result = let w = walk_on _ _ _ _ _ c.next_line-moved.ensures (Wrong _) c.in-Offence.is in
+    let placed-there : Placed c.args.feed.now c.loop-r.at c.line_at-ends.result = let w = walk_on _ _ _ _ _ c.next_line-moved.ensures (Err _) c.in-Offence.is in
     placed _ _ _ (omega (arith, w.on, w.next)) c.line_at-ends.ensures in
     placed-there.end
 
 pub blame-requires : goal.blame-requires
 blame-requires c =
-    let placed-there : Placed c.args.feed.now c.loop-r.at c.line_at-ends.result = let w = walk_on _ _ _ _ _ c.next_line-moved.ensures (Wrong _) c.in-Offence.is in
+    let placed-there : Placed c.args.feed.now c.loop-r.at c.line_at-ends.result = let w = walk_on _ _ _ _ _ c.next_line-moved.ensures (Err _) c.in-Offence.is in
     placed _ _ _ (omega (arith, w.on, w.next)) c.line_at-ends.ensures in
     let h = c.requires.0 in
     (omega arith, simp (length-take, length-drop) (omega (arith, placed-there.start, placed-there.end, h)))
@@ -58,31 +59,31 @@ returns-in-Offence c = let l = c.loop-r in
 
 pub overflow_cast-rows : goal.overflow_cast-rows
 overflow_cast-rows c =
-    let step-on : let m = c.next_line-moved.result in (c.loop-r.at < m.next) × (m.next ≤ length c.args.feed.now) × (m.step.count ≤ 7) = let w = walk_on _ _ _ _ _ c.next_line-moved.ensures Right c.in-Within.is in
+    let step-on : let m = c.next_line-moved.result in (c.loop-r.at < m.next) × (m.next ≤ length c.args.feed.now) × (m.step.count ≤ 7) = let w = walk_on _ _ _ _ _ c.next_line-moved.ensures (Ok tt) c.in-Within.is in
     (w.on, w.next, rw w.step (spans _ w.text).few) in
     omega (arith, step-on)
 
 pub overflow_add-rows : goal.overflow_add-rows
 overflow_add-rows c =
-    let step-on : let m = c.next_line-moved.result in (c.loop-r.at < m.next) × (m.next ≤ length c.args.feed.now) × (m.step.count ≤ 7) = let w = walk_on _ _ _ _ _ c.next_line-moved.ensures Right c.in-Within.is in
+    let step-on : let m = c.next_line-moved.result in (c.loop-r.at < m.next) × (m.next ≤ length c.args.feed.now) × (m.step.count ≤ 7) = let w = walk_on _ _ _ _ _ c.next_line-moved.ensures (Ok tt) c.in-Within.is in
     (w.on, w.next, rw w.step (spans _ w.text).few) in
     omega (arith, step-on)
 
 pub overflow_add-line : goal.overflow_add-line
 overflow_add-line c =
-    let step-on : let m = c.next_line-moved.result in (c.loop-r.at < m.next) × (m.next ≤ length c.args.feed.now) × (m.step.count ≤ 7) = let w = walk_on _ _ _ _ _ c.next_line-moved.ensures Right c.in-Within.is in
+    let step-on : let m = c.next_line-moved.result in (c.loop-r.at < m.next) × (m.next ≤ length c.args.feed.now) × (m.step.count ≤ 7) = let w = walk_on _ _ _ _ _ c.next_line-moved.ensures (Ok tt) c.in-Within.is in
     (w.on, w.next, rw w.step (spans _ w.text).few) in
     omega (arith, step-on)
 
 pub loop-r-smaller : goal.loop-r-smaller
 loop-r-smaller c =
-    let step-on : let m = c.next_line-moved.result in (c.loop-r.at < m.next) × (m.next ≤ length c.args.feed.now) × (m.step.count ≤ 7) = let w = walk_on _ _ _ _ _ c.next_line-moved.ensures Right c.in-Within.is in
+    let step-on : let m = c.next_line-moved.result in (c.loop-r.at < m.next) × (m.next ≤ length c.args.feed.now) × (m.step.count ≤ 7) = let w = walk_on _ _ _ _ _ c.next_line-moved.ensures (Ok tt) c.in-Within.is in
     (w.on, w.next, rw w.step (spans _ w.text).few) in
     omega (arith, step-on)
 
 pub loop-r-preserved : goal.loop-r-preserved
 loop-r-preserved c =
-    let step-on : let m = c.next_line-moved.result in (c.loop-r.at < m.next) × (m.next ≤ length c.args.feed.now) × (m.step.count ≤ 7) = let w = walk_on _ _ _ _ _ c.next_line-moved.ensures Right c.in-Within.is in
+    let step-on : let m = c.next_line-moved.result in (c.loop-r.at < m.next) × (m.next ≤ length c.args.feed.now) × (m.step.count ≤ 7) = let w = walk_on _ _ _ _ _ c.next_line-moved.ensures (Ok tt) c.in-Within.is in
     (w.on, w.next, rw w.step (spans _ w.text).few) in
     let l = c.loop-r in
     let n : eqb (l.line + 1) 1 ≡ false = ne_eqb (l.line + 1) 1 (λ e. omega arith) in (

@@ -10,12 +10,12 @@ use native.Mathlib.Omega.{arith}
 use lib.Dec.{eqb}
 use lib.ListN.{length}
 use borrow.Author.Tests.{ne_eqb}
-use Rattle.step.specs.declared.Verdict.TheVariants.{Right}
-use Rattle.judge.specs.declared.Judged.TheVariants.{Accepted}
 use Rattle.judge.specs.Message.{texts, judge_texts}
 use Rattle.judge.proofs.Laws.{left, sure_next, AtLine, walk_on, walk_end, judged-wrong, judged-right, not_both}
 use Rattle.rows.proofs.Fills.{few, step_fits, fill_end, fill_turn, group_le}
 use Rattle.rows.proofs.fill.Goals as goal
+use Rattle.std.specs.Prelude.{Ok}
+use mathlib.Core.Unit.{tt}
 
 -- the walk is at a line that is right, so the counts fit
 counts : (f : List ℕ) (at : ℕ) (first : Bool) (st : State) (m : Moved) → AtLine f at first st m → (at < m.next) × (m.next ≤ length f) × (m.step.count ≤ 7)
@@ -35,30 +35,30 @@ pub returns-in-Offence : goal.returns-in-Offence
 returns-in-Offence c = absurd (not_both c.loop-step.invariant.0.1 (judged-wrong _ _ _ _ _ c.next_line-moved.ensures _ _ _ c.in-Offence.is))
 
 pub group_after-group-requires : goal.group_after-group-requires
-group_after-group-requires c = omega (arith, counts _ _ _ _ _ (walk_on _ _ _ _ _ c.next_line-moved.ensures Right c.in-Within.is))
+group_after-group-requires c = omega (arith, counts _ _ _ _ _ (walk_on _ _ _ _ _ c.next_line-moved.ensures (Ok tt) c.in-Within.is))
 
 pub put_rows-requires : goal.put_rows-requires
 put_rows-requires c =
-    let w = walk_on _ _ _ _ _ c.next_line-moved.ensures Right c.in-Within.is in
+    let w = walk_on _ _ _ _ _ c.next_line-moved.ensures (Ok tt) c.in-Within.is in
     step_fits _ w.text _ _ _ w.step (omega (arith, w.fits, w.next, c.requires.limit)) (omega (arith, counts _ _ _ _ _ w, c.requires.limit))
 
 pub overflow_cast-n : goal.overflow_cast-n
-overflow_cast-n c = omega (arith, counts _ _ _ _ _ (walk_on _ _ _ _ _ c.next_line-moved.ensures Right c.in-Within.is))
+overflow_cast-n c = omega (arith, counts _ _ _ _ _ (walk_on _ _ _ _ _ c.next_line-moved.ensures (Ok tt) c.in-Within.is))
 
 pub overflow_add-n : goal.overflow_add-n
-overflow_add-n c = omega (arith, counts _ _ _ _ _ (walk_on _ _ _ _ _ c.next_line-moved.ensures Right c.in-Within.is), c.requires.limit)
+overflow_add-n c = omega (arith, counts _ _ _ _ _ (walk_on _ _ _ _ _ c.next_line-moved.ensures (Ok tt) c.in-Within.is), c.requires.limit)
 
 pub overflow_add-line : goal.overflow_add-line
-overflow_add-line c = omega (arith, counts _ _ _ _ _ (walk_on _ _ _ _ _ c.next_line-moved.ensures Right c.in-Within.is))
+overflow_add-line c = omega (arith, counts _ _ _ _ _ (walk_on _ _ _ _ _ c.next_line-moved.ensures (Ok tt) c.in-Within.is))
 
 pub loop-step-smaller : goal.loop-step-smaller
-loop-step-smaller c = omega (arith, counts _ _ _ _ _ (walk_on _ _ _ _ _ c.next_line-moved.ensures Right c.in-Within.is))
+loop-step-smaller c = omega (arith, counts _ _ _ _ _ (walk_on _ _ _ _ _ c.next_line-moved.ensures (Ok tt) c.in-Within.is))
 
 pub loop-step-preserved : goal.loop-step-preserved
 loop-step-preserved c =
-    let w = walk_on _ _ _ _ _ c.next_line-moved.ensures Right c.in-Within.is in
+    let w = walk_on _ _ _ _ _ c.next_line-moved.ensures (Ok tt) c.in-Within.is in
     -- the lines after it are accepted too
-    let still-right : let m = c.next_line-moved.result in (total : ℕ) × (judge_texts m.step.state (c.loop-step.line + 1) (c.loop-step.n + m.step.count) (texts (left c.args.feed.now m.next false)) ≡ Accepted total) = let h = c.loop-step.invariant.0 in
+    let still-right : let m = c.next_line-moved.result in (total : ℕ) × (judge_texts m.step.state (c.loop-step.line + 1) (c.loop-step.n + m.step.count) (texts (left c.args.feed.now m.next false)) ≡ Ok total) = let h = c.loop-step.invariant.0 in
     (h.0, sym (judged-right _ _ _ _ _ c.next_line-moved.ensures _ _ c.in-Within.is) ∙ h.1) in
     let l = c.loop-step in
     let n : eqb (l.line + 1) 1 ≡ false = ne_eqb (l.line + 1) 1 (λ e. omega arith) in (

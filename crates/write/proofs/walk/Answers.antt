@@ -8,9 +8,7 @@ use lib.Dec.{eqb}
 use lib.ListN.{length, length-append}
 use borrow.Author.Tests.{eq-eqb, ne_eqb}
 use Rattle.lines.specs.declared.Form.{Form}
-use Rattle.step.specs.declared.Verdict.TheVariants.{Right}
 use Rattle.judge.specs.Message.{texts, judge_texts}
-use Rattle.judge.specs.declared.Judged.TheVariants.{Accepted}
 use Rattle.judge.proofs.Laws.{left, sure_next, walk_on, walk_end, verdict, judged-wrong, judged-right, not_both}
 use Rattle.write.specs.Plain.{plain}
 use Rattle.write.specs.Inner.{line_of, items_from, written_from}
@@ -18,13 +16,15 @@ use Rattle.ink.proofs.Laws.{Left, left_start, left_turn, left_same, left_done}
 use Rattle.write.proofs.Walks.{kept, values_held, named, line_short, some_left, none_left, end_left}
 use Rattle.write.proofs.walk.Goals as goal
 use Rattle.write.proofs.walk.Goals.{else-step-gt0, then-step-gt0}
+use Rattle.std.specs.Prelude.{Ok}
+use mathlib.Core.Unit.{tt}
 
 pub loop-step-init : goal.loop-step-init
 unfolding written_from
 loop-step-init c =
     let a = c.args in
     let z : eqb a.from a.from ≡ true = eq-eqb a.from a.from refl in
-    let r : judge_texts c.fresh-state.result 1 0 (texts (left a.feed.now a.from true)) ≡ Accepted c.requires.writable.rows = rw c.fresh-state.ensures c.requires.writable.right in
+    let r : judge_texts c.fresh-state.result 1 0 (texts (left a.feed.now a.from true)) ≡ Ok c.requires.writable.rows = rw c.fresh-state.ensures c.requires.writable.right in
     rw z (record { line = 1; rows = 0; total = c.requires.writable.rows; right = r }, left_start _ _ _ _, omega arith, omega arith)
 
 pub next_line-moved-requires : goal.next_line-moved-requires
@@ -48,8 +48,8 @@ put_line-n-requires c =
     let l = c.loop-step in
     let m = c.next_line-moved.result in
     let x = m.step in
-    let w = walk_on _ _ _ _ _ c.next_line-moved.ensures Right c.in-Within.is in
-    let v = verdict _ _ _ _ _ c.next_line-moved.ensures Right c.in-Within.is in
+    let w = walk_on _ _ _ _ _ c.next_line-moved.ensures (Ok tt) c.in-Within.is in
+    let v = verdict _ _ _ _ _ c.next_line-moved.ensures (Ok tt) c.in-Within.is in
     let h = rw (some_left _ _ _ _ _ w v l.first c.if-step-gt0.true) at l.invariant.1 in
     let room : c.args.writing ≡ true → length (plain c.fresh-state.result.form (items_from c.fresh-state.result f (left f c.args.from true))) ≤ length c.args.buffer.now =
     λ g. rw c.fresh-state.ensures (c.requires.form_in_bounds g) in
@@ -65,7 +65,7 @@ put_line-n-requires c =
 
 pub loop-step-smaller : goal.loop-step-smaller
 loop-step-smaller c =
-    let w = walk_on _ _ _ _ _ c.next_line-moved.ensures Right c.in-Within.is in
+    let w = walk_on _ _ _ _ _ c.next_line-moved.ensures (Ok tt) c.in-Within.is in
     omega (arith, w.on, w.next)
 
 pub loop-step-preserved : goal.loop-step-preserved
@@ -74,8 +74,8 @@ loop-step-preserved c =
     let l = c.loop-step in
     let m = c.next_line-moved.result in
     let u = c.fresh-state.result in
-    let w = walk_on _ _ _ _ _ c.next_line-moved.ensures Right c.in-Within.is in
-    let v = verdict _ _ _ _ _ c.next_line-moved.ensures Right c.in-Within.is in
+    let w = walk_on _ _ _ _ _ c.next_line-moved.ensures (Ok tt) c.in-Within.is in
+    let v = verdict _ _ _ _ _ c.next_line-moved.ensures (Ok tt) c.in-Within.is in
     let went : Left c.args.writing 0 (plain u.form (items_from u f (left f c.args.from true))) c.args.buffer.now c.if-step-gt0.n
     (written_from c.if-step-gt0.first l.state.form (items_from m.step.state f (left f m.next false))) c.if-step-gt0.buffer × (c.if-step-gt0.n ≤ l.n + 28 + 7 * length w.text) =
     elim c.if-step-gt0.branch [
