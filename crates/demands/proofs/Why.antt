@@ -32,7 +32,6 @@ use Rattle.demands.proofs.Listed.{codes_packed, codes_exactly, codes_rising}
 use Rattle.demands.specs.Placing.{JudgingPlain}
 use Rattle.demands.specs.Why.{SameReason, state_after, form_in, state_before, listed_in, ListedExactly, no_line, start_or, InTheLine, Rising, InOrder}
 use Rattle.std.specs.Prelude.{Result, Ok, Err, ⊤}
-use mathlib.Core.Unit.{tt}
 use Rattle.judge.specs.declared.Refusal.{Refusal}
 
 nil-cons : {A : Type 0} {x : A} {xs : List A} → [] ≡ x ∷ xs → ⊥

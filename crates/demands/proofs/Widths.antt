@@ -22,7 +22,6 @@ use Rattle.tables.proofs.Hearing.{row_out, row_in}
 use Rattle.tables.proofs.Copies.{rewritten-length, widen_unlike, widen_done, narrow_unlike, narrow_wide, narrow_done}
 use Rattle.demands.specs.Widths.{Bytes, AsMany, WidenedReads, NarrowedBack, WideExactly, UnequalExactly, RefusedLeaves}
 use Rattle.std.specs.Prelude.{Result, Ok, Err, ⊤}
-use mathlib.Core.Unit.{tt}
 
 -- ---- an entry's number and its bytes, over the width
 

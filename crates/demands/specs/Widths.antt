@@ -6,7 +6,6 @@ use Rattle.reasons.specs.declared.Reason.TheVariants as Reasons
 use Rattle.tables.specs.Table.{host_width, recorded_width, entry_at}
 use Rattle.tables.specs.Hearing.{row_heard}
 use Rattle.tables.specs.Widths.{entries_in, widen_of, widened, narrow_of, narrowed}
-use mathlib.Core.Unit.{tt}
 
 -- a list of bytes, as every table that is lent is one
 abbrev pub Bytes : List ℕ → Type 0

@@ -23,7 +23,6 @@ use Rattle.judge.proofs.Laws.{left, line_at, none_left, text_left, line_left, li
 use Rattle.explain.specs.Explain.{plainly, blamed, ended, explain_from, explain_lines, explain_of}
 use Rattle.explain.specs.declared.Explained.{Explained}
 use Rattle.std.specs.Prelude.{Result, Ok, Err, ⊤}
-use mathlib.Core.Unit.{tt}
 
 module _ (f : List ℕ) (at : ℕ) (first : Bool) (st : State) (m : Moved) (q : m ≡ moved_of st at (drop at f) (left f at first)) where
   abbrev ends : Ends

@@ -11,7 +11,6 @@ use Rattle.judge.specs.Message.{is_heading, form_of, from_heading, feed_limit, r
 use Rattle.parts.specs.Parts.{offending}
 use Rattle.explain.specs.Codes.{no_codes, codes_of, codes_for}
 use Rattle.explain.specs.declared.Explained.{Explained}
-use mathlib.Core.Unit.{tt}
 use Rattle.judge.specs.declared.Refusal.{Refusal}
 
 -- "1, 2 and acceptance are answered as such"

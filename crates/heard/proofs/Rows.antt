@@ -44,7 +44,6 @@ use Rattle.heard.specs.Heard.{AllPlain, RightIn, RightOf, IsHeard, RowHeard, Row
 use Rattle.heard.proofs.Epochs.{plain}
 use Rattle.heard.proofs.Heard.{all_said}
 use Rattle.std.specs.Prelude.{Option, Some, None, Ok}
-use mathlib.Core.Unit.{tt}
 
 -- a META line's row, or one whose value is right
 abbrev Fit : Item → Type 0

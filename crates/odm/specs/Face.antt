@@ -15,7 +15,6 @@ use Rattle.odm.specs.declared.OdmWritten.{OdmWritten}
 use Rattle.odm.specs.declared.OdmRounded.{OdmRounded}
 use Rattle.odm.specs.declared.OdmSpoken.{OdmSpoken}
 use Rattle.odm.specs.declared.OdmExplained.{OdmExplained}
-use mathlib.Core.Unit.{tt}
 use Rattle.reasons.specs.declared.Reason.{Reason}
 use Rattle.judge.specs.declared.Refusal.{Refusal}
 use Rattle.judge.specs.declared.Row.{Row}

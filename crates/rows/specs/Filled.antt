@@ -1,6 +1,6 @@
 -- A message's rows in a table, by document 01, "Rows, desk and tickets" and its table of reasons.
 -- Assumes nothing.
-use Rattle.std.specs.Prelude.{ℕ, ◌+◌, ◌*◌, ◌<◌, ◌≤◌, ◌≡◌, List, ◌++◌, true, false, ltb, length, drop, get_or, Result, Ok}
+use Rattle.std.specs.Prelude.{ℕ, ◌+◌, ◌*◌, ◌<◌, ◌≤◌, ◌≡◌, List, ◌++◌, true, false, ltb, length, drop, get_or, Result, Ok, Err}
 use Rattle.lines.specs.Feed.{lines_at}
 use Rattle.lines.specs.Text.{no_span}
 use Rattle.lines.specs.declared.Form.{Form}
@@ -14,12 +14,12 @@ use Rattle.judge.specs.declared.Refusal.{Refusal}
 
 -- NO_ROOM: "message right, table under 5 x count entries": the judgement of a message, with a table of so many bytes
 unfoldable pub room_for : ℕ → Result ℕ Refusal → Result ℕ Refusal
-room_for bytes (refused r l) = refused r l
+room_for bytes (Err e) = Err e
 room_for bytes (Ok n) = elim (ltb bytes (host_row * n)) [ true ↦ refused Reasons.NoRoom 0 | false ↦ Ok n ]
 
 -- "Acceptance fills the first 5 x count entries of the table and keeps the others as they came"; "after a refusal [..] the table untouched"
 unfoldable pub table_after : Result ℕ Refusal → List Row → List ℕ → List ℕ
-table_after (refused r l) rs t = t
+table_after (Err e) rs t = t
 table_after (Ok n) rs t = table_bytes rs ++ drop (host_row * n) t
 
 -- ---- what the inner functions ask

@@ -1,13 +1,13 @@
 // A message's rows in a lent table of bytes: judged and put there.
 #![tactic(auto)]
 
-ghost use Rattle.std.specs.Prelude.{◌≡◌, ◌<◌, length, take};
+ghost use Rattle.std.specs.Prelude.{◌≡◌, ◌<◌, length, take, Ok};
 ghost use Rattle.judge.specs.Message.{feed_limit, judge_of, group_of, rows_at, rows_of};
 ghost use Rattle.tables.specs.Table.{put_rows};
 ghost use Rattle.rows.specs.Filled.{StepFits, rows_found, Fillable, room_for, table_after};
 
-use grammar::Form;
-use judge::{Judged, Met, Row, Sighted};
+use judge::{Refusal, Row};
+use lines::Form;
 use reasons::Reason;
 use step::{State, Step};
 use tables::ROW_BYTES;
@@ -68,17 +68,10 @@ fn fill(feed: &[u8], from: usize, form: Form, table: &mut [u8])
     let mut group: u32 = 0;
     let mut n: u32 = 0;
     let mut state = State::fresh(form);
-    loop {
-        let moved = judge::next_line(feed, at, line == 1, state, true); // sure: the message is right
-        let met = moved.met;
-        match met {
-            Met::End => return,
-            Met::Offence(_) => return,
-            Met::Within => {}
-        }
+    // sure: the message is right
+    'lines: while let Ok(Some(moved)) = judge::next_line(feed, at, line == 1, state, true) {
         let step = moved.step;
-        let kind = state.form;
-        group = group_after(kind, group, step.code);
+        group = group_after(state.form, group, step.code);
         put_rows(table, n, step, group, line, at);
         n += step.count as u32;
         line += 1;
@@ -88,26 +81,36 @@ fn fill(feed: &[u8], from: usize, form: Form, table: &mut [u8])
 }
 
 // A message that is right, found at a place, with so many rows: nothing is put before the table is known to have room.
-fn put_found(feed: &[u8], from: usize, form: Form, rows: u32, table: &mut [u8]) -> Judged
+fn put_found(
+    feed: &[u8],
+    from: usize,
+    form: Form,
+    rows: u32,
+    table: &mut [u8],
+) -> Result<u32, Refusal>
     requires fillable { Fillable feed.now from form }
     requires rows_value { rows ≡ length (rows_found feed.now from form) }
-    ensures answer { result ≡ room_for (length table.old) (Judged.Accepted rows) }
+    ensures answer { result ≡ room_for (length table.old) (Ok rows) }
     ensures table { table.new ≡ table_after result (rows_found feed.now from form) table.old }
 {
     if table.len() < ROW_BYTES * (rows as usize) {
-        return Judged::Refused(Reason::NoRoom, 0);
+        return Err(Reason::NoRoom.into());
     }
     fill(feed, from, form, table);
-    Judged::Accepted(rows)
+    Ok(rows)
 }
 
 // Judges a message and, where it is right and the table has room, puts its rows into the table.
-pub fn put_message(feed: &[u8], message: usize, table: &mut [u8]) -> Judged
+pub fn put_message(feed: &[u8], message: usize, table: &mut [u8]) -> Result<u32, Refusal>
     ensures answer { result ≡ room_for (length table.old) (judge_of feed.now message) }
     ensures table { table.new ≡ table_after result (rows_of feed.now message) table.old }
 {
-    match judge::sight(feed, message) {
-        Sighted::Wrong(reason, line) => Judged::Refused(reason, line),
-        Sighted::Right(at, form, rows) => put_found(feed, at, form, rows, table),
-    }
+    let sighted = judge::sight(feed, message)?;
+    put_found(
+        feed,
+        sighted.found.at,
+        sighted.found.form,
+        sighted.rows,
+        table,
+    )
 }

@@ -16,7 +16,6 @@ use Rattle.tables.specs.Table.{host_width, recorded_width, entry_bytes, entry_at
 use Rattle.tables.specs.Widths.{entries_in, rewritten, copied, some_wide, widen_of, narrow_of, made_by, widened, narrowed}
 use Rattle.tables.proofs.Entries.{bytes-length}
 use Rattle.std.specs.Prelude.{Ok, Err}
-use mathlib.Core.Unit.{tt}
 
 -- stores behind some bytes
 sets_behind : (a s e : List ℕ) → length e ≤ length s → sets (a ++ s) (length a) e ≡ a ++ (e ++ drop (length e) s)

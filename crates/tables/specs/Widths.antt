@@ -3,7 +3,6 @@
 use Rattle.std.specs.Prelude.{ℕ, zero, suc, ◌+◌, ◌*◌, ◌/◌, List, [], ◌++◌, Bool, true, false, eqb, ltb, length, drop, Result, Ok, Err, ⊤}
 use Rattle.reasons.specs.declared.Reason.TheVariants as Reasons
 use Rattle.tables.specs.Table.{host_width, recorded_width, entry_bytes, entry_at}
-use mathlib.Core.Unit.{tt}
 use Rattle.reasons.specs.declared.Reason.{Reason}
 
 -- how many entries a table of a width has; spare bytes at its end make none

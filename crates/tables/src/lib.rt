@@ -10,20 +10,6 @@ ghost use Rattle.tables.specs.Widths.{entries_in, copied, some_wide, widen_of, w
 use judge::Row;
 use reasons::Reason;
 
-// A row of the table, or why it is not spoken.
-#[derive(Clone, Copy)]
-pub enum Heard {
-    Spoken(Row),
-    Silent(Reason),
-}
-
-// A table made at the other width, or why not.
-#[derive(Clone, Copy)]
-pub enum Resized {
-    Done,
-    Refused(Reason),
-}
-
 // A row's five entries, four bytes each.
 pub const ROW_BYTES: usize = 20;
 
@@ -88,17 +74,17 @@ fn get_row(table: &[u8], n: usize) -> Row
 }
 
 // The row at a row number, if it lies in the table and its span in the feed.
-pub fn row_heard(n: u32, feed: &[u8], table: &[u8]) -> Heard
+pub fn row_heard(n: u32, feed: &[u8], table: &[u8]) -> Result<Row, Reason>
     ensures { result ≡ row_heard host_width n feed.now table.now }
 {
     if table.len() < ROW_BYTES * (n as usize + 1) {
-        return Heard::Silent(Reason::Astray);
+        return Err(Reason::Astray);
     }
     let row = get_row(table, n as usize);
     if feed.len() < row.start as usize + row.length as usize {
-        return Heard::Silent(Reason::Astray);
+        return Err(Reason::Astray);
     }
-    Heard::Spoken(row)
+    Ok(row)
 }
 
 // One entry of a recorded table put in its place: two bytes.
@@ -168,28 +154,28 @@ fn narrow_entries(wide: &[u8], narrow: &mut [u8])
 }
 
 // A recorded table of two bytes an entry made one of four, in which each row reads as it did.
-pub fn widen(narrow: &[u8], wide: &mut [u8]) -> Resized
+pub fn widen(narrow: &[u8], wide: &mut [u8]) -> Result<(), Reason>
     ensures answer { result ≡ widen_of narrow.now wide.old }
     ensures table { wide.new ≡ widened narrow.now wide.old }
 {
     if !same_entries(narrow.len(), wide.len()) {
-        return Resized::Refused(Reason::NoRoom);
+        return Err(Reason::NoRoom);
     }
     widen_entries(narrow, wide);
-    Resized::Done
+    Ok(())
 }
 
 // A table made a recorded one of two bytes an entry, if every entry fits.
-pub fn narrow(wide: &[u8], narrow: &mut [u8]) -> Resized
+pub fn narrow(wide: &[u8], narrow: &mut [u8]) -> Result<(), Reason>
     ensures answer { result ≡ narrow_of wide.now narrow.old }
     ensures table { narrow.new ≡ narrowed wide.now narrow.old }
 {
     if !same_entries(narrow.len(), wide.len()) {
-        return Resized::Refused(Reason::NoRoom);
+        return Err(Reason::NoRoom);
     }
     if any_wide(wide) {
-        return Resized::Refused(Reason::Wide);
+        return Err(Reason::Wide);
     }
     narrow_entries(wide, narrow);
-    Resized::Done
+    Ok(())
 }

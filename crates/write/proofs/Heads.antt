@@ -31,7 +31,6 @@ use Rattle.write.specs.Plain.{Item, item, type_of}
 use Rattle.write.specs.Inner.{held, items_at, items_from}
 use Rattle.write.proofs.Readings.{whether, value_stood, Reads, blank, comment, meta, assign, fields, read}
 use Rattle.std.specs.Prelude.{None, Result, Ok, Err, ⊤}
-use mathlib.Core.Unit.{tt}
 use Rattle.reasons.specs.declared.Reason.{Reason}
 
 -- ---- a heading line has a row, and is no comment

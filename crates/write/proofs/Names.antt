@@ -25,7 +25,6 @@ use Rattle.write.specs.Plain.{word_in, is_field}
 use Rattle.write.specs.Inner.{name_of}
 use Rattle.write.proofs.Readings.{either, whether, value_stood, Reads, blank, comment, meta, assign, fields, read}
 use Rattle.std.specs.Prelude.{Some, None, Ok}
-use mathlib.Core.Unit.{tt}
 
 -- ---- a keyword has its code's word
 

@@ -27,7 +27,6 @@ use Rattle.step.specs.declared.Step.{Step}
 use Rattle.reasons.specs.declared.Reason.{Reason}
 use Rattle.reasons.specs.declared.Reason.TheVariants as Reasons
 use Rattle.std.specs.Prelude.{Option, Some, None, Ok, Err}
-use mathlib.Core.Unit.{tt}
 
 -- an offence is not right
 pub offends : {r : Reason} {A : Type 0} → Err r ≡ Ok tt → A

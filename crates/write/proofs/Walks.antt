@@ -31,7 +31,6 @@ use Rattle.write.proofs.Names.{each_word, each_word_lem, Rowed, none, one, seven
 use Rattle.write.proofs.Heads.{from_head, message_type}
 use Rattle.write.proofs.Turns.{Lined, lined, behind-append, plain-append}
 use Rattle.std.specs.Prelude.{Ok}
-use mathlib.Core.Unit.{tt}
 
 -- the lines left are accepted
 pub record Accepts (st : State) (ls : List Line) : Type 0 where

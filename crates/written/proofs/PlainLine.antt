@@ -35,7 +35,6 @@ use Rattle.written.proofs.Bytes.{Passes, pass_cons, pass_split, pass_append, pas
 use Rattle.written.proofs.Spaced.{parts}
 use Rattle.written.proofs.Trimmed.{span, Trimmed, trimmed, trimmed_end, cut_more, part-le, trim_trimmed, word_trimmed, part_whole, Commented, commented, comment_empty, comment_plain, comment_part, sided, assigned, assigned_keyword, assigned-value}
 use Rattle.std.specs.Prelude.{Some, None, Ok}
-use mathlib.Core.Unit.{tt}
 
 -- a step that is right, with other spans
 abbrev pub respan : Step → List Span → Step

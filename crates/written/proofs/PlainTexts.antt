@@ -35,7 +35,6 @@ use Rattle.written.proofs.Spaced.{parts, split_seven, respaced}
 use Rattle.written.proofs.PlainLine.{Again, OneAgain, one_again, lead_head, lead_other}
 use Rattle.written.proofs.PlainData.{written, data_plain, data_heading}
 use Rattle.std.specs.Prelude.{Some, None, Ok}
-use mathlib.Core.Unit.{tt}
 
 -- ---- rows as they are written, line by line
 

@@ -14,7 +14,6 @@ use Rattle.judge.proofs.Laws.{unsure, walk_on}
 use Rattle.explain.proofs.Walk.{explained_end, explained_wrong, explained_right}
 use Rattle.explain.proofs.explain_from.Goals as goal
 use Rattle.std.specs.Prelude.{Ok, Err}
-use mathlib.Core.Unit.{tt}
 
 pub loop-r-init : goal.loop-r-init
 loop-r-init c = (refl, omega arith, omega arith, omega arith, omega arith)

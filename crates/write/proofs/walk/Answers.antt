@@ -17,7 +17,6 @@ use Rattle.write.proofs.Walks.{kept, values_held, named, line_short, some_left, 
 use Rattle.write.proofs.walk.Goals as goal
 use Rattle.write.proofs.walk.Goals.{else-step-gt0, then-step-gt0}
 use Rattle.std.specs.Prelude.{Ok}
-use mathlib.Core.Unit.{tt}
 
 pub loop-step-init : goal.loop-step-init
 unfolding written_from
