@@ -23,7 +23,7 @@ next_desk d n = record { load = record { 0 = d.load.0 + 1 }; count = n }
 
 -- "after any other load the load number is one higher, and after a refusal the count is 0"
 unfoldable pub desk_after : Desk → Result ℕ Refusal → Desk
-desk_after d (refused r l) = next_desk d 0
+desk_after d (Err e) = next_desk d 0
 desk_after d (Ok n) = next_desk d n
 
 -- document 02, (viii): "placing, which judges, fills the table and moves the desk. Placing answers as the old load did for every input." Document 01:
