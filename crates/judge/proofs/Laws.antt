@@ -21,12 +21,13 @@ use Rattle.reasons.specs.declared.Reason.{Reason}
 use Rattle.reasons.specs.declared.Reason.TheVariants as Reasons
 use Rattle.judge.specs.declared.Moved.{Moved}
 use Rattle.judge.specs.declared.Found.{Found}
+use Rattle.judge.specs.declared.Stop.{Stop}
 use Rattle.judge.specs.declared.Refusal.{Refusal}
 use Rattle.step.proofs.Sound.{spans}
 use Rattle.lines.specs.Text.{heading_of}
 use Rattle.lines.specs.declared.Form.TheVariants.{Opm}
 use Rattle.std.specs.Prelude.{Option, Some, None, is_some, unwrap_or, Result, Ok, Err, IsOk}
-use Rattle.judge.specs.Message.{is_heading, form_of, from_heading, headings, up_to, texts, end_of, judge_texts, judge_lines, message_of, judge_of, feed_limit, moved_to, moved_of, refused, SureNext, found_of, FoundIs, sighted_of, SightedIs, rows_from, rows_lines, rows_of}
+use Rattle.judge.specs.Message.{is_heading, form_of, from_heading, headings, up_to, texts, end_of, judge_texts, judge_lines, message_of, judge_of, feed_limit, moved_to, moved_of, stop_of, stop_lines, walk_of, judged_by, refused, SureNext, found_of, FoundIs, Sought, Unfound, sighted_of, SightedIs, rows_from, rows_lines, rows_of}
 
 -- ---- past the feed's end
 
@@ -253,19 +254,19 @@ module _ (f : List ℕ) (at : ℕ) (first : Bool) (st : State) (y : Result (Opti
       which next (Ok x) e = cc
 
   -- a line that is right
-  pub walk_on : (m : Moved) → y ≡ Ok (Some m) → (w : AtLine f at first m.next) × (step_of st w.text ≡ Ok m.step)
+  pub walk_on : (m : Moved) → y ≡ Ok (Some m) → (w : AtLine f at first m.next) × (step_of st w.text ≡ Ok m.step) × (m.next ≡ at + line_len (drop at f))
   unfolding moved_of
-  walk_on m p = ⊎_elim (λ w. absurd (clash (q ∙ rw w))) (λ w. which w.0 w.2 _ refl (met w.0 w.2 w.1)) (walk f at first)
+  walk_on m p = ⊎_elim (λ w. absurd (clash (q ∙ rw w))) (λ w. which w.0 w.2 w.1 _ refl (met w.0 w.2 w.1)) (walk f at first)
     where
       clash : y ≡ Ok None → ⊥
       clash e = cc
 
-      which : (next : ℕ) (w : AtLine f at first next) (x : Result Step Reason) → step_of st w.text ≡ x → y ≡ moved_to next x
-          → (w : AtLine f at first m.next) × (step_of st w.text ≡ Ok m.step)
-      which next w (Err s) k e = cc
-      which next w (Ok x) k e =
+      which : (next : ℕ) (w : AtLine f at first next) → next ≡ at + line_len (drop at f) → (x : Result Step Reason) → step_of st w.text ≡ x → y ≡ moved_to next x
+          → (w : AtLine f at first m.next) × (step_of st w.text ≡ Ok m.step) × (m.next ≡ at + line_len (drop at f))
+      which next w j (Err s) k e = cc
+      which next w j (Ok x) k e =
           let z : record { step = x; next = next } ≡ m = cc in
-          rw (← z) (w, k)
+          rw (← z) (w, k, j)
 
   -- which takes at least a byte of the feed, and has few rows
   pub step_on : (m : Moved) → y ≡ Ok (Some m) → (at < m.next) × (m.next ≤ length f) × (m.step.count ≤ 7)
@@ -290,9 +291,94 @@ module _ (f : List ℕ) (at : ℕ) (first : Bool) (st : State) (y : Result (Opti
       let w = walk_on m p in
       rw w.0.more (rw (w.1, judge_texts))
 
+-- ---- where the walk comes to its end
+
+module _ (f : List ℕ) (at : ℕ) (first : Bool) (st : State) (y : Result (Option Moved) Reason) (q : y ≡ moved_of st at (drop at f) (left f at first)) where
+  abbrev ends : Ends
+  ends = ends_of at (drop at f)
+
+  abbrev text : List ℕ
+  text = (line_at f at ends).text
+
+  abbrev over : Bool
+  over = not first && is_heading text
+
+  -- at the message's end there is no line, or a heading line that is not the first
+  over_end : left f at first ≡ [] → at < length f → over ≡ true
+  over_end p h = go over refl
+    where
+      go : (t : Bool) → over ≡ t → t ≡ true
+      go true z = refl
+      go false z = cc (p, up_more f at ends h refl first z)
+
+  module _ (next : ℕ) (w : AtLine f at first next) where
+    here_in : at < length f
+    here_in = omega (arith, w.on, w.inside)
+
+    goes : over ≡ false
+    goes = go over refl
+      where
+        go : (t : Bool) → over ≡ t → t ≡ false
+        go true z = cc (w.more, up_stop f at ends here_in refl first z)
+        go false z = refl
+
+    same_text : w.text ≡ text
+    same_text = line-text f at first next w ∙ sym (text_left at (drop at f) ends refl)
+
+  module _ (line rows : ℕ) where
+    abbrev here : Stop
+    here = stop_of (length f) first st line rows (lines_at at (drop at f))
+
+    pub stopped-end : at ≤ length f → y ≡ Ok None → here ≡ record { at = at; line = line; rows = rows; state = st; offence = None }
+    unfolding stop_of
+    stopped-end a p = go (ltb at (length f)) refl
+      where
+        go : (t : Bool) → ltb at (length f) ≡ t → here ≡ record { at = at; line = line; rows = rows; state = st; offence = None }
+        go true z =
+            let h = ltb-true at (length f) z in
+            rw (line_left f at ends h refl) (rw (over_end (walk_end f at first st y q p) h, stop_of))
+        go false z =
+            let h = ltb-false at (length f) z in
+            let e : length f ≡ at = omega arith in
+            rw (none_left f at h) (rw e)
+
+    pub stopped-wrong : (r : Reason) → y ≡ Err r → here ≡ record { at = at; line = line; rows = rows; state = st; offence = Some r }
+    unfolding stop_of
+    stopped-wrong r p =
+        let w = walk_wrong f at first st y q r p in
+        let e : step_of st text ≡ Err r = rw (same_text w.0 w.1) at w.2 in
+        rw (line_left f at ends (here_in w.0 w.1) refl) (rw (goes w.0 w.1, stop_of) (rw (e, stop_of)))
+
+    pub stopped-right : (m : Moved) → y ≡ Ok (Some m)
+        → here ≡ stop_of (length f) false m.step.state (line + 1) (rows + m.step.count) (lines_at m.next (drop m.next f))
+    unfolding stop_of ends_of
+    stopped-right m p =
+        let w = walk_on f at first st y q m p in
+        let e : step_of st text ≡ Ok m.step = rw (same_text m.next w.0) at w.1 in
+        rw (w.2, line_left f at ends (here_in m.next w.0) refl) (rw (goes m.next w.0, stop_of) (rw (e, stop_of)))
+
+-- what the end says of a message is its judgement
+pub judged-stop : (n : ℕ) (ls : List Line) (first : Bool) (st : State) (line rows : ℕ)
+    → judge_texts st line rows (texts (up_to first ls)) ≡ judged_by (stop_of n first st line rows ls)
+unfolding judge_texts up_to stop_of judged_by
+judged-stop n [] first st line rows = refl
+judged-stop n (l ∷ ls) first st line rows =
+    go (not first && is_heading l.text) refl (step_of st l.text) refl (λ st' line' rows'. judged-stop n ls false st' line' rows')
+  where
+    go : (t : Bool) → not first && is_heading l.text ≡ t → (y : Result Step Reason) → step_of st l.text ≡ y
+        → ((st' : State) (line' rows' : ℕ) → judge_texts st' line' rows' (texts (up_to false ls)) ≡ judged_by (stop_of n false st' line' rows' ls))
+        → judge_texts st line rows (texts (up_to first (l ∷ ls))) ≡ judged_by (stop_of n first st line rows (l ∷ ls))
+    go true z y k ih = rw (z, up_to, stop_of)
+    go false z (Err r) k ih = rw (z, up_to, stop_of) (rw (k, judge_texts, stop_of))
+    go false z (Ok x) k ih = rw (z, up_to, stop_of) (rw (k, judge_texts, stop_of) (ih x.state (line + 1) (rows + x.count)))
+
 -- ---- a message by its number
 
 module _ (f : List ℕ) (k : ℕ) where
+  pub walk_long : feed_limit < length f → walk_of f k ≡ Err Reasons.FeedLong
+  unfolding walk_of
+  walk_long h = rw (lt-ltb _ _ h, walk_of)
+
   pub judge_long : feed_limit < length f → judge_of f k ≡ refused Reasons.FeedLong 0
   unfolding judge_of
   judge_long h = rw (lt-ltb _ _ h, judge_of)
@@ -308,6 +394,38 @@ module _ (f : List ℕ) (k : ℕ) where
         let p = x.at in
         let e = ends_of p (drop p f) in
         rw (le-ltb _ _ h, judge_of) (rw (q.0, up_more f p e q.1 refl true refl) (rw (text_left p (drop p f) e refl, q.2)))
+
+    pub walk_missing : FoundIs None k f → walk_of f k ≡ Err Reasons.NoMessage
+    unfolding walk_of FoundIs stop_lines
+    walk_missing q = rw (le-ltb _ _ h, walk_of) (rw q)
+
+    pub walk_found : (x : Found) → FoundIs (Some x) k f → walk_of f k ≡ Ok (stop_of (length f) true (fresh_state x.form) 1 0 (lines_at x.at (drop x.at f)))
+    unfolding walk_of FoundIs stop_lines
+    walk_found x q =
+        let p = x.at in
+        let e = ends_of p (drop p f) in
+        rw (le-ltb _ _ h, walk_of) (rw (q.0, line_left f p e q.1 refl) (rw (text_left p (drop p f) e refl, q.2)))
+
+    -- what the walk's end says is the judgement
+    pub judge_stopped : (x : Found) → FoundIs (Some x) k f
+        → judge_of f k ≡ judged_by (stop_of (length f) true (fresh_state x.form) 1 0 (lines_at x.at (drop x.at f)))
+    judge_stopped x q = judge_found x q ∙ judged-stop (length f) (lines_at x.at (drop x.at f)) true (fresh_state x.form) 1 0
+
+module _ (f : List ℕ) (k : ℕ) where
+  pub sought_long : feed_limit < length f → Unfound f k Reasons.FeedLong
+  sought_long h = record { judged = judge_long f k h; walked = walk_long f k h }
+
+  module _ (h : length f ≤ feed_limit) (y : Option Found) (q : y ≡ found_of (from_heading k (lines f))) (w : FoundIs y k f) where
+    pub sought_not : y ≡ None → Unfound f k Reasons.NoMessage
+    sought_not e = record { judged = judge_missing f k h (rw e at w); walked = walk_missing f k h (rw e at w) }
+
+    pub sought : (x : Found) → y ≡ Some x → Sought f k x
+    sought x e = record { short = h; place = sym e ∙ q; lines = rw e at w }
+
+-- where a message is found lies in the feed
+pub sought_in : (f : List ℕ) (k : ℕ) (x : Found) → Sought f k x → x.at ≤ length f
+unfolding FoundIs
+sought_in f k x w = omega (arith, w.lines.1)
 
 -- ---- a message judged, with its place
 

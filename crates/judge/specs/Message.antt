@@ -1,6 +1,6 @@
 -- A feed's messages and their judgement, by document 01, "Feeds, lines and headings" and its table of reasons.
 -- Assumes nothing.
-use Rattle.std.specs.Prelude.{ℕ, ◌+◌, ◌-◌, ◌<◌, ◌≡◌, List, [], ◌∷◌, ◌++◌, map, Option, Some, None, is_some, unwrap_or, Result, Ok, Err, Bool, true, false, not, ◌&&◌, eqb, ltb, length, take, drop}
+use Rattle.std.specs.Prelude.{ℕ, ◌+◌, ◌-◌, ◌<◌, ◌≤◌, ◌≡◌, List, [], ◌∷◌, ◌++◌, map, Option, Some, None, is_some, unwrap_or, Result, Ok, Err, Bool, true, false, not, ◌&&◌, eqb, ltb, length, take, drop}
 use Rattle.lines.specs.Feed.{Line, lines, lines_at, text_len, line_len}
 use Rattle.lines.specs.Text.{heading_of}
 use Rattle.lines.specs.declared.Span.{Span}
@@ -11,6 +11,7 @@ use Rattle.step.specs.Step.{fresh_state, Sure, step_of}
 use Rattle.reasons.specs.declared.Reason.{Reason}
 use Rattle.reasons.specs.declared.Reason.TheVariants as Reasons
 use Rattle.judge.specs.declared.Refusal.{Refusal}
+use Rattle.judge.specs.declared.Stop.{Stop}
 use Rattle.judge.specs.declared.Moved.{Moved}
 use Rattle.judge.specs.declared.Found.{Found}
 use Rattle.judge.specs.declared.Sighted.{Sighted}
@@ -84,6 +85,33 @@ judge_of f k = elim (ltb feed_limit (length f)) [ true ↦ refused Reasons.FeedL
 unfoldable pub count_of : List ℕ → Result ℕ Reason
 count_of f = elim (ltb feed_limit (length f)) [ true ↦ Err Reasons.FeedLong | false ↦ Ok (headings (lines f)) ]
 
+-- ---- where a walk along a message comes to its end
+
+-- the lines of a message one after the other, up to the next heading line, the feed's end, n, or a line that offends; the first line is kept, heading or not
+unfoldable pub stop_of : ℕ → Bool → State → ℕ → ℕ → List Line → Stop
+stop_of n first st line rows [] = record { at = n; line = line; rows = rows; state = st; offence = None }
+stop_of n first st line rows (l ∷ ls) =
+    elim (not first && is_heading l.text) [
+      | true ↦ record { at = l.start; line = line; rows = rows; state = st; offence = None }
+      | false ↦
+          elim (step_of st l.text) [
+            | Err r ↦ record { at = l.start; line = line; rows = rows; state = st; offence = Some r }
+            | Ok x ↦ stop_of n false x.state (line + 1) (rows + x.count) ls
+          ]
+    ]
+
+-- NO_MESSAGE where there are no lines
+unfoldable pub stop_lines : ℕ → List Line → Result Stop Reason
+stop_lines n [] = Err Reasons.NoMessage
+stop_lines n (l ∷ ls) = Ok (stop_of n true (fresh_state (form_of l.text)) 1 0 (l ∷ ls))
+
+unfoldable pub walk_of : List ℕ → ℕ → Result Stop Reason
+walk_of f k = elim (ltb feed_limit (length f)) [ true ↦ Err Reasons.FeedLong | false ↦ stop_lines (length f) (from_heading k (lines f)) ]
+
+-- what the end says of the message
+unfoldable pub judged_by : Stop → Result ℕ Refusal
+judged_by x = elim x.offence [ Some r ↦ refused r x.line | None ↦ end_of x.state x.line x.rows ]
+
 -- ---- one step of a walk along a message
 
 -- a line judged, behind which the next one starts at n
@@ -111,6 +139,16 @@ unfoldable pub FoundIs : Option Found → ℕ → List ℕ → Type 0
 FoundIs (Some x) k s =
     (from_heading k (lines s) ≡ lines_at x.at (drop x.at s)) × (x.at < length s) × (x.form ≡ form_of (take (text_len (drop x.at s)) (drop x.at s)))
 FoundIs None k s = from_heading k (lines s) ≡ []
+
+-- a message found in a feed that is not too long, and none found: the reason is that of judging it and of walking along it
+pub record Sought (s : List ℕ) (k : ℕ) (x : Found) : Type 0 where
+  pub short : length s ≤ feed_limit
+  pub place : Some x ≡ found_of (from_heading k (lines s))
+  pub lines : FoundIs (Some x) k s
+
+pub record Unfound (s : List ℕ) (k : ℕ) (r : Reason) : Type 0 where
+  pub judged : judge_of s k ≡ Err (of_feed r)
+  pub walked : walk_of s k ≡ Err r
 
 -- ---- a message judged, with its place
 

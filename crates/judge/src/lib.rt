@@ -1,10 +1,10 @@
 // A feed's messages found and judged, line by line.
 #![tactic(auto)]
 
-ghost use Rattle.std.specs.Prelude.{◌≡◌, true, not, ◌&&◌, ◌≤◌, length, drop};
+ghost use Rattle.std.specs.Prelude.{◌≡◌, true, not, ◌&&◌, ◌≤◌, length, drop, IfOk, IfErr};
 ghost use Rattle.lines.specs.Feed.{lines, lines_at};
 ghost use Rattle.step.specs.Step.{fresh_state};
-ghost use Rattle.judge.specs.Message.{of_feed, is_heading, from_heading, headings, up_to, texts, end_of, judge_texts, judge_of, count_of, moved_of, SureNext, feed_limit, found_of, FoundIs, sighted_of, SightedIs};
+ghost use Rattle.judge.specs.Message.{of_feed, is_heading, from_heading, headings, up_to, stop_of, walk_of, judged_by, judge_of, count_of, moved_of, SureNext, feed_limit, found_of, FoundIs, Sought, Unfound, sighted_of, SightedIs};
 
 use lines::Form;
 use reasons::Reason;
@@ -34,6 +34,16 @@ impl From<Reason> for Refusal {
 pub struct Moved {
     pub step: Step,
     pub next: usize,
+}
+
+// Where a walk along a message came to its end: the place, the line, the rows of the lines before it, the state there, and why the line offends, if one does.
+#[derive(Clone, Copy, Debug, PartialEq, Eq)]
+pub struct Stop {
+    pub at: usize,
+    pub line: u32,
+    pub rows: u32,
+    pub state: State,
+    pub offence: Option<Reason>,
 }
 
 // Where a message starts, and its type.
@@ -150,40 +160,75 @@ pub fn next_line(
     }))
 }
 
-// At the end of a message: the rows, or SHORT at the line after the last.
-fn end_of(state: State, line: u32, rows: u32) -> Result<u32, Refusal>
-    ensures { result ≡ end_of state line rows }
-{
-    if grammar::next_of(state.form, state.last).end {
-        return Ok(rows);
+impl Stop {
+    // What the end says of the message: its rows, the offence, or SHORT at the line after the last.
+    #[tactic(auto, unfolding(crate::specs::Message::judged_by, crate::specs::Message::end_of))]
+    pub fn judged(self) -> Result<u32, Refusal>
+        ensures { result ≡ judged_by self }
+    {
+        let line = self.line;
+        if let Some(reason) = self.offence {
+            return Err(Refusal { reason, line });
+        }
+        if grammar::next_of(self.state.form, self.state.last).end {
+            return Ok(self.rows);
+        }
+        Err(Refusal {
+            reason: Reason::Short,
+            line,
+        })
     }
-    Err(Refusal {
-        reason: Reason::Short,
-        line,
-    })
 }
 
 // The message that starts at a place, judged line by line.
-fn judge_from(feed: &[u8], from: usize, form: Form) -> Result<u32, Refusal>
-    requires { length feed.now ≤ feed_limit }
-    ensures { result ≡ judge_texts (fresh_state form) 1 0 (texts (up_to true (lines_at from (drop from feed.now)))) }
+fn walk_from(feed: &[u8], found: Found) -> Stop
+    requires { (length feed.now ≤ feed_limit) × (found.at ≤ length feed.now) }
+    ensures { result ≡ stop_of (length feed.now) true (fresh_state found.form) 1 0 (lines_at found.at (drop found.at feed.now)) }
 {
-    let mut at = from;
-    let mut line: u32 = 1;
-    let mut rows: u32 = 0;
-    let mut state = State::fresh(form);
+    let mut stop = Stop {
+        at: found.at,
+        line: 1,
+        rows: 0,
+        state: State::fresh(found.form),
+        offence: None,
+    };
     'lines: loop {
-        match next_line(feed, at, line == 1, state, false) {
-            Err(reason) => return Err(Refusal { reason, line }),
-            Ok(None) => return end_of(state, line, rows),
+        match next_line(feed, stop.at, stop.line == 1, stop.state, false) {
+            Err(reason) => {
+                return Stop {
+                    offence: Some(reason),
+                    ..stop
+                };
+            }
+            Ok(None) => return stop,
             Ok(Some(moved)) => {
-                rows += moved.step.count as u32;
-                line += 1;
-                state = moved.step.state;
-                at = moved.next;
+                stop.rows += moved.step.count as u32;
+                stop.line += 1;
+                stop.state = moved.step.state;
+                stop.at = moved.next;
             }
         }
     }
+}
+
+// A message of a feed that is not too long.
+#[tactic(auto, using(crate::proofs::Laws::sought, crate::proofs::Laws::sought_not))]
+fn seek(feed: &[u8], message: usize) -> Result<Found, Reason>
+    ensures found { IfOk result (Sought feed.now message) }
+    ensures missing { IfErr result (Unfound feed.now message) }
+{
+    if feed.len() <= FEED_LIMIT {
+        return find_message(feed, message).ok_or(Reason::NoMessage);
+    }
+    Err(Reason::FeedLong)
+}
+
+// A message of a feed found and walked along to its end, or to the first line that offends.
+pub fn walk(feed: &[u8], message: usize) -> Result<Stop, Reason>
+    ensures { result ≡ walk_of feed.now message }
+{
+    let found = seek(feed, message)?;
+    Ok(walk_from(feed, found))
 }
 
 // A message of a feed found and judged, so that a walk that comes behind need not find it again.
@@ -191,11 +236,8 @@ pub fn sight(feed: &[u8], message: usize) -> Result<Sighted, Refusal>
     ensures answer { result ≡ sighted_of feed.now message }
     ensures judged { SightedIs result message feed.now }
 {
-    if FEED_LIMIT < feed.len() {
-        return Err(Reason::FeedLong.into());
-    }
-    let found = find_message(feed, message).ok_or(Reason::NoMessage)?;
-    let rows = judge_from(feed, found.at, found.form)?;
+    let found = seek(feed, message)?;
+    let rows = walk_from(feed, found).judged()?;
     Ok(Sighted { found, rows })
 }
 
