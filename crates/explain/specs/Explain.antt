@@ -35,11 +35,10 @@ ended st n line rows =
 unfoldable pub explain_from : ℕ → Bool → State → ℕ → ℕ → List Line → Explained
 explain_from n first st line rows [] = ended st n line rows
 explain_from n first st line rows (l ∷ ls) =
-    let x = step_of st l.text in
     elim (not first && is_heading l.text) [
       | true ↦ ended st l.start line rows
       | false ↦
-          elim x.verdict [ Err r ↦ blamed st line l r | Ok tt ↦ explain_from n false x.state (line + 1) (rows + x.count) ls ]
+          elim (step_of st l.text) [ Err r ↦ blamed st line l r | Ok x ↦ explain_from n false x.state (line + 1) (rows + x.count) ls ]
     ]
 
 -- NO_MESSAGE where there are no lines
