@@ -36,6 +36,7 @@ Right P y = (x : Step) → y ≡ Ok x → P x
 pub offends : (P : Step → Type 0) {r : Reason} → Right P (Err r)
 offends P x e = cc
 
+-- and where there is none, what holds of the step given holds
 pub stands : (P : Step → Type 0) {a : Step} → P a → Right P (Ok a)
 stands P {a} h x e =
     let q : a ≡ x = cc in
