@@ -18,7 +18,8 @@ write_found-requires c =
 pub returns-in_err-sighted : goal.returns-in_err-sighted
 unfolding SightedIs answer_of buffer_after
 returns-in_err-sighted c =
-    let w = rw c.in_err-sighted.was at c.sight.ensures.judged in
+    let s : c.sight.result ≡ Err c.in_err-sighted.field-0.0 = search rules in
+    let w = rw s at c.sight.ensures.judged in
     let z : c.from_residual.result ≡ Err c.in_err-sighted.field-0.0 = search rules in
     rw z (record { answer = rw w; buffer = refl })
 
