@@ -18,7 +18,7 @@ use Rattle.epochs.specs.declared.Instant.{Instant}
 use Rattle.grammar.specs.Rows.{pick}
 use Rattle.grammar.specs.Keywords.{kind_of}
 use Rattle.grammar.specs.declared.Kind.{Kind}
-use Rattle.grammar.specs.declared.Kind.TheVariants.{Version, Text, Integer, Number, Epoch as EpochKind, Nothing}
+use Rattle.grammar.specs.declared.Kind.TheVariants.{Version, Text, Integer, Number, Epoch as EpochKind}
 use Rattle.spoken.specs.Saying.{said_from, mark_at, words_by}
 use Rattle.spoken.specs.Way.{way_if, epoch_way, way_in, way_of}
 use Rattle.spoken.specs.Spoken.{spoken_by, spoken_of, words_in, words_of}
@@ -56,32 +56,32 @@ ordinal_back v e = epoch_back Ordinal ordinal_shape ordinal_worded v e
 
 -- ---- by the kind of value
 
-abbrev Undone : Kind → List ℕ → Option Manner → Type 0
+abbrev Undone : Option Kind → List ℕ → Option Manner → Type 0
 Undone k v w = (w ≡ None → ⊥) → heard_from (sayings_of k) 0 (words_in w v) ≡ spelled_in k v
 
-if_back : (k : Kind) (v : List ℕ) (m : Manner) (t : Bool) → (t ≡ true → heard_from (sayings_of k) 0 (words_by m v) ≡ spelled_in k v) → Undone k v (way_if t m)
+if_back : (k : Option Kind) (v : List ℕ) (m : Manner) (t : Bool) → (t ≡ true → heard_from (sayings_of k) 0 (words_by m v) ≡ spelled_in k v) → Undone k v (way_if t m)
 unfolding words_in
 if_back k v m true g h = g refl
 if_back k v m false g h = absurd (h refl)
 
-epoch_undone : (v : List ℕ) → Undone EpochKind v (epoch_way v)
+epoch_undone : (v : List ℕ) → Undone (Some EpochKind) v (epoch_way v)
 unfolding epoch_way words_in
 epoch_undone v h = go (epoch_of v true) refl h
   where
     go : (e : Option Instant) → epoch_of v true ≡ e
-        → Undone EpochKind v (elim e [ Some t ↦ elim (shaped calendar_shape v) [ true ↦ Some Calendar | false ↦ Some Ordinal ] | None ↦ None ])
+        → Undone (Some EpochKind) v (elim e [ Some t ↦ elim (shaped calendar_shape v) [ true ↦ Some Calendar | false ↦ Some Ordinal ] | None ↦ None ])
     go None q f = absurd (f refl)
     go (Some t) q f =
         ⊎_elim (λ s. rw s.shape (calendar_back v s)) (λ s. rw s.0 (ordinal_back v s.1)) (epoch_shape v true t q)
 
-kind_back : (k : Kind) (v : List ℕ) → Undone k v (way_in k v)
+kind_back : (k : Option Kind) (v : List ℕ) → Undone k v (way_in k v)
 unfolding way_in
-kind_back Version v = if_back Version v Plain (is_version v) (λ e. plain_back v)
-kind_back Text v = if_back Text v Plain (is_text v) (λ e. plain_back v)
-kind_back Integer v = if_back Integer v Numeral (is_integer v) (λ e. numeral_back v (integer_fine v e).known ∙ integer_capital v e)
-kind_back Number v = if_back Number v Numeral (is_number v) (λ e. numeral_back v (number_fine v e).known)
-kind_back EpochKind v = epoch_undone v
-kind_back Nothing v = λ h. absurd (h refl)
+kind_back (Some Version) v = if_back (Some Version) v Plain (is_version v) (λ e. plain_back v)
+kind_back (Some Text) v = if_back (Some Text) v Plain (is_text v) (λ e. plain_back v)
+kind_back (Some Integer) v = if_back (Some Integer) v Numeral (is_integer v) (λ e. numeral_back v (integer_fine v e).known ∙ integer_capital v e)
+kind_back (Some Number) v = if_back (Some Number) v Numeral (is_number v) (λ e. numeral_back v (number_fine v e).known)
+kind_back (Some EpochKind) v = epoch_undone v
+kind_back None v = λ h. absurd (h refl)
 
 comment_back : (v : List ℕ) → heard_of 45 (words_by Plain v) ≡ spelled_of 45 v
 unfolding pick
@@ -103,7 +103,7 @@ heard_apart c v w h k e = sym (heard_back c v h) ∙ ap (heard_of c) e ∙ heard
 -- ---- what is right has words, and 259 bytes are room enough
 
 -- this kind of value is said in this manner, plainly, and not at length
-record Sayable (k : Kind) (v : List ℕ) : Type 0 where
+record Sayable (k : Option Kind) (v : List ℕ) : Type 0 where
   manner : Manner
   way : way_in k v ≡ Some manner
   plain : AllPlain v
@@ -177,7 +177,7 @@ epoch_sixty v false t e =
     go false true f g h = g h
     go false false f g h = h
 
-epoch_sayable : (v : List ℕ) (sixty : Bool) (t : Instant) → epoch_of v sixty ≡ Some t → Sayable EpochKind v
+epoch_sayable : (v : List ℕ) (sixty : Bool) (t : Instant) → epoch_of v sixty ≡ Some t → Sayable (Some EpochKind) v
 unfolding way_in epoch_way run bytes
 epoch_sayable v sixty t e =
     let f = epoch_sixty v sixty t e in
@@ -198,20 +198,20 @@ epoch_sayable v sixty t e =
     })
     (epoch_shape v true t f)
 
-sayable : (k : Kind) (v : List ℕ) → RightIn k v → length v ≤ 254 → Sayable k v
+sayable : (k : Option Kind) (v : List ℕ) → RightIn k v → length v ≤ 254 → Sayable k v
 unfolding way_in bytes run
-sayable Version v r h =
+sayable (Some Version) v r h =
     let w = word-is (bytes "1.0") v r in
     record { manner = Plain; way = rw r; plain = rw w; room = rw plain-words (omega arith) }
-sayable Text v r h = record { manner = Plain; way = rw r.0; plain = r.1; room = rw plain-words (omega arith) }
-sayable Integer v r h =
+sayable (Some Text) v r h = record { manner = Plain; way = rw r.0; plain = r.1; room = rw plain-words (omega arith) }
+sayable (Some Integer) v r h =
     let x = integer_fine v r in
     record { manner = Numeral; way = rw r; plain = all_known_plain v x.known; room = omega (arith, numeral_long v _ x) }
-sayable Number v r h =
+sayable (Some Number) v r h =
     let x = number_fine v r in
     record { manner = Numeral; way = rw r; plain = all_known_plain v x.known; room = omega (arith, numeral_long v _ x) }
-sayable EpochKind v r h = epoch_sayable v r.0 r.1 r.2
-sayable Nothing v r h = absurd r
+sayable (Some EpochKind) v r h = epoch_sayable v r.0 r.1 r.2
+sayable None v r h = absurd r
 
 -- what is said in a manner that has room is said
 said_so : (c : ℕ) (v : List ℕ) (room : ℕ) (m : Manner) → way_of c v ≡ Some m → length (words_by m v) ≤ room → spoken_of c v room ≡ Ok (length (words_of c v))

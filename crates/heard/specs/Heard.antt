@@ -1,6 +1,6 @@
 -- What is true of a value's words.
 -- Assumes nothing.
-use Rattle.std.specs.Prelude.{ℕ, ◌≤◌, ◌≡◌, List, Bool, true, ◌⊎◌, length, take, drop, Some, None, Ok}
+use Rattle.std.specs.Prelude.{ℕ, ◌≤◌, ◌≡◌, List, Bool, true, ◌⊎◌, length, take, drop, Option, Some, None, Ok}
 use Rattle.words.specs.Words.{Each}
 use Rattle.lines.specs.Text.{odd_at}
 use Rattle.values.specs.Number.{is_number, is_integer, is_text, is_version}
@@ -8,7 +8,7 @@ use Rattle.epochs.specs.Epoch.{epoch_of}
 use Rattle.epochs.specs.declared.Instant.{Instant}
 use Rattle.grammar.specs.Keywords.{kind_of}
 use Rattle.grammar.specs.declared.Kind.{Kind}
-use Rattle.grammar.specs.declared.Kind.TheVariants.{Version, Text, Integer, Number, Epoch, Nothing}
+use Rattle.grammar.specs.declared.Kind.TheVariants.{Version, Text, Integer, Number, Epoch}
 use Rattle.judge.specs.Message.{judge_of, rows_of}
 use Rattle.judge.specs.declared.Row.{Row}
 use Rattle.spoken.specs.Way.{way_of}
@@ -32,13 +32,13 @@ abbrev pub AllPlain : List ℕ → Type 0
 AllPlain v = odd_at v ≡ length v
 
 -- a value is right in its kind: an epoch is, whether or not second 60 may stand
-abbrev pub RightIn : Kind → List ℕ → Type 0
-RightIn Version v = is_version v ≡ true
-RightIn Text v = (is_text v ≡ true) × AllPlain v
-RightIn Integer v = is_integer v ≡ true
-RightIn Number v = is_number v ≡ true
-RightIn Epoch v = (sixty : Bool) × (t : Instant) × (epoch_of v sixty ≡ Some t)
-RightIn Nothing v = ⊥
+abbrev pub RightIn : Option Kind → List ℕ → Type 0
+RightIn (Some Version) v = is_version v ≡ true
+RightIn (Some Text) v = (is_text v ≡ true) × AllPlain v
+RightIn (Some Integer) v = is_integer v ≡ true
+RightIn (Some Number) v = is_number v ≡ true
+RightIn (Some Epoch) v = (sixty : Bool) × (t : Instant) × (epoch_of v sixty ≡ Some t)
+RightIn None v = ⊥
 
 -- and a comment is any such text
 abbrev pub RightOf : ℕ → List ℕ → Type 0

@@ -7,7 +7,7 @@ use Prim.Native.Nat.{ℕ, ◌<◌}
 use native.Mathlib.Omega.{arith}
 use lib.Dec.{eqb, ltb, leb}
 use lib.ListN.{length}
-use borrow.Author.Tests.{eqb-true, eqb-false, leb-true, ltb-true}
+use borrow.Author.Tests.{eqb-true, leb-true, ltb-true}
 use Rattle.words.specs.Words.{bytes, agrees, is_word}
 use Rattle.words.proofs.Laws.{word-is}
 use Rattle.lines.specs.Text.{equals_at, sides_of, assignment_of}
@@ -24,7 +24,7 @@ use Rattle.step.specs.declared.Step.{Step}
 use Rattle.write.specs.Plain.{word_in, is_field}
 use Rattle.write.specs.Inner.{name_of}
 use Rattle.write.proofs.Readings.{either, whether, value_stood, Reads, blank, comment, meta, assign, fields, read}
-use Rattle.std.specs.Prelude.{Some, None, Ok}
+use Rattle.std.specs.Prelude.{Option, Some, None, Ok}
 
 -- ---- a keyword has its code's word
 
@@ -120,21 +120,24 @@ pub data Meta : Form → List ℕ → ℕ → Type 0 where
   start : Meta Oem (bytes "META_START") 37
   stop : Meta Oem (bytes "META_STOP") 44
 
-pub meta_line : (f : Form) (t : List ℕ) (c : ℕ) → meta_code f t ≡ c → eqb c 0 ≡ false → Meta f t c
+pub meta_line : (f : Form) (t : List ℕ) (c : ℕ) → meta_code f t ≡ Some c → Meta f t c
 unfolding meta_code
-meta_line Opm t c e n = absurd (eqb-false c 0 n (sym e))
-meta_line Oem t c e n =
-    let P : ℕ → Type 0 = λ m. m ≡ c → Meta Oem t c in
-    whether P (is_word (bytes "META_START") t) (λ q h. rw (← h, word-is _ t q) start)
-    (λ p. whether P (is_word (bytes "META_STOP") t) (λ q h. rw (← h, word-is _ t q) stop) (λ q h. absurd (eqb-false c 0 n (sym h)))) e
+meta_line Opm t c e = cc
+meta_line Oem t c e =
+    let P : Option ℕ → Type 0 = λ m. m ≡ Some c → Meta Oem t c in
+    whether P (is_word (bytes "META_START") t) (λ q h. met (bytes "META_START") 37 start (word-is _ t q) cc)
+    (λ p. whether P (is_word (bytes "META_STOP") t) (λ q h. met (bytes "META_STOP") 44 stop (word-is _ t q) cc) (λ q h. cc)) e
+  where
+    met : (w : List ℕ) (n : ℕ) → Meta Oem w n → t ≡ w → n ≡ c → Meta Oem t c
+    met w n m p q = rw (p, ← q) m
 
 -- what is none of them has no code
-pub meta_none : (f : Form) (t : List ℕ) → ((c : ℕ) → Meta f t c → ⊥) → meta_code f t ≡ 0
-meta_none f t h = go (eqb (meta_code f t) 0) refl
+pub meta_none : (f : Form) (t : List ℕ) → ((c : ℕ) → Meta f t c → ⊥) → meta_code f t ≡ None
+meta_none f t h = go (meta_code f t) refl
   where
-    go : (a : Bool) → eqb (meta_code f t) 0 ≡ a → meta_code f t ≡ 0
-    go true q = eqb-true _ 0 q
-    go false q = absurd (h _ (meta_line f t _ refl q))
+    go : (a : Option ℕ) → meta_code f t ≡ a → meta_code f t ≡ None
+    go None q = q
+    go (Some c) q = absurd (h c (meta_line f t c q))
 
 pub meta_code_lem : {f : Form} {t : List ℕ} {c : ℕ} → Meta f t c → (is_field f c ≡ false) × ((c ≡ 37 → ⊥) → c ≡ 44)
 unfolding is_field
@@ -151,25 +154,25 @@ comment_either st P h k = go st.form
     go Oem = either P (eqb st.last 9) k h
 
 -- no line changes the message type
-pub form_kept : (st : State) (s : List ℕ) → (step_of st s).verdict ≡ Ok tt → (step_of st s).state.form ≡ st.form
-form_kept st s r = go (read st s r).1 r
+pub form_kept : (st : State) (s : List ℕ) (x : Step) → step_of st s ≡ Ok x → x.state.form ≡ st.form
+form_kept st s x r = go (read st s x r).1
   where
-    go : {x : Step} → Reads st s x → x.verdict ≡ Ok tt → x.state.form ≡ st.form
-    go (blank e) h = refl
-    go (comment p e) h = comment_either st (λ u. u.form ≡ st.form) refl refl
-    go (meta c e z f) h = refl
-    go (assign x c a e f) h = (value_stood st c x.value s h).form
-    go (fields t a d) h = refl
+    go : {x : Step} → Reads st s x → x.state.form ≡ st.form
+    go (blank e) = refl
+    go (comment p e) = comment_either st (λ u. u.form ≡ st.form) refl refl
+    go (meta c e f) = refl
+    go (assign x c a e f y v) = (value_stood st c x.value s y v).form
+    go (fields t a d) = refl
 
-pub rowed : (st : State) (s : List ℕ) → (step_of st s).verdict ≡ Ok tt → Rowed st s (step_of st s)
-rowed st s r = go (read st s r).1 r
+pub rowed : (st : State) (s : List ℕ) (x : Step) → step_of st s ≡ Ok x → Rowed st s x
+rowed st s x r = go (read st s x r).1
   where
-    go : {x : Step} → Reads st s x → x.verdict ≡ Ok tt → Rowed st s x
-    go (blank e) h = none refl
-    go (comment p e) h = one refl (no_comment_field st.form) (λ a b c. absurd (c refl))
-    go (meta c e z f) h = let m = meta_code_lem (meta_line st.form _ c e z) in one refl m.0 (λ a b d. absurd (b (m.1 a)))
-    go (assign x c a e f) h =
-        let v = value_stood st c x.value s h in
+    go : {x : Step} → Reads st s x → Rowed st s x
+    go (blank e) = none refl
+    go (comment p e) = one refl (no_comment_field st.form) (λ a b c. absurd (c refl))
+    go (meta c e f) = let m = meta_code_lem (meta_line st.form _ c e) in one refl m.0 (λ a b d. absurd (b (m.1 a)))
+    go (assign x c a e f y u) =
+        let v = value_stood st c x.value s y u in
         let w = assigned st.form _ c e in
         one v.count (rw v.code w.field) (λ i j k. name_is s x a ∙ sym (rw v.code w.word))
-    go (fields t a d) h = seven refl refl d.form
+    go (fields t a d) = seven refl refl d.form

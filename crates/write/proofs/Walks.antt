@@ -22,7 +22,7 @@ use Rattle.step.specs.declared.Step.{Step}
 use Rattle.step.proofs.Sound.{Spans, spans}
 use Rattle.judge.specs.Message.{up_to, texts, judge_texts, judge_of, FoundIs, group_of, rows_at, rows_from, rows_of}
 use Rattle.judge.specs.declared.Moved.{Moved}
-use Rattle.judge.specs.declared.Found.TheVariants.{Place}
+use Rattle.judge.specs.declared.Found.{Found}
 use Rattle.judge.proofs.Laws.{left, line_at, rest as rest_of, line_left, up_more, AtLine, line-text, judge_found, accepted_short, found_rows}
 use Rattle.write.specs.Plain.{Item, item, item_of, comment_lead, lead_of, word_in, behind, plain, type_of, plain_of}
 use Rattle.write.specs.Inner.{Held, held, spaced, values_of, ValuesHeld, Named, leads_of, break_of, line_of, items_at, items_from, written_from, plain_from, Writable}
@@ -30,7 +30,8 @@ use Rattle.write.proofs.Readings.{either}
 use Rattle.write.proofs.Names.{each_word, each_word_lem, Rowed, none, one, seven, rowed, form_kept}
 use Rattle.write.proofs.Heads.{from_head, message_type}
 use Rattle.write.proofs.Turns.{Lined, lined, behind-append, plain-append}
-use Rattle.std.specs.Prelude.{Ok}
+use Rattle.std.specs.Prelude.{Some, Result, Ok, Err}
+use Rattle.reasons.specs.declared.Reason.{Reason}
 
 -- the lines left are accepted
 pub record Accepts (st : State) (ls : List Line) : Type 0 where
@@ -81,23 +82,27 @@ length_items (p ∷ ps) c f at = ap suc (length_items ps (c + 1) f at)
 
 -- ---- the line in hand
 
-module _ (f : List ℕ) (at : ℕ) (b : Bool) (st : State) (m : Moved) (w : AtLine f at b st m) (v : (step_of st w.text).verdict ≡ Ok tt) where
+-- it is right
+module _ (f : List ℕ) (at : ℕ) (b : Bool) (st : State) (m : Moved) (o : (w : AtLine f at b m.next) × (step_of st w.text ≡ Ok m.step)) where
+  abbrev w : AtLine f at b m.next
+  w = o.0
+
   abbrev x : Step
   x = m.step
 
   its_spans : Spans w.text x
-  its_spans = rw w.step (spans st w.text)
+  its_spans = spans st w.text x o.1
 
   its_rows : Rowed st w.text x
-  its_rows = rw w.step (rowed st w.text v)
+  its_rows = rowed st w.text x o.1
 
   pub kept : x.state.form ≡ st.form
-  kept = rw w.step (form_kept st w.text v)
+  kept = form_kept st w.text x o.1
 
   its_held : (i : ℕ) → i < x.count → Held f at (get_or x.spans i no_span)
   its_held i h =
       let p = its_spans.inside i h in
-      record { order = p.order; end = omega (arith, p.end, w.fits, w.next) }
+      record { order = p.order; end = omega (arith, p.end, w.fits, w.inside) }
 
   pub values_held : 0 < x.count → ValuesHeld f at x
   values_held h = record { some = h; few = its_spans.few; size = its_spans.size; inside = its_held }
@@ -107,7 +112,7 @@ module _ (f : List ℕ) (at : ℕ) (b : Bool) (st : State) (m : Moved) (w : AtLi
     where
       go : Rowed st w.text x → Named f at x.code
       go (none z) = absurd (omega arith)
-      go (one z d g) = λ i j k. rw (← line-text f at b st m w) (g i j k)
+      go (one z d g) = λ i j k. rw (← line-text f at b m.next w) (g i j k)
       go (seven z c d) = absurd (omega arith)
 
   its_line : 0 < x.count → Lined st.form f at x
@@ -141,7 +146,7 @@ module _ (f : List ℕ) (at : ℕ) (b : Bool) (st : State) (m : Moved) (w : AtLi
 
   items_left : items_from st f (left f at b) ≡ its_items ++ rest
   unfolding items_from its_items rest
-  items_left = rw w.more (rw (← w.step))
+  items_left = rw w.more (rw (o.1, items_from))
 
   pub some_left : (first : Bool) → 0 < x.count
       → written_from first st.form (items_from st f (left f at b)) ≡ line_of first f at x ++ written_from false st.form (items_from x.state f (left f m.next false))
@@ -168,10 +173,21 @@ items_at_lem f (p ∷ ps) c g line at = ap (λ (is : List Item). item c (held f 
 items_rows : (f : List ℕ) (ls : List Line) (st : State) (g line : ℕ) → map (item_of f) (rows_from st g line ls) ≡ items_from st f ls
 unfolding rows_from items_from
 items_rows f [] st g line = refl
-items_rows f (l ∷ ls) st g line =
-    let x = step_of st l.text in
-    map-append (item_of f) (rows_at x.code (group_of st.form g x.code) line l.start (take x.count x.spans)) _
-    ∙ ap₂ ◌++◌ (items_at_lem f (take x.count x.spans) x.code _ line l.start) (items_rows f ls x.state _ (line + 1))
+items_rows f (l ∷ ls) st g line = go (step_of st l.text) (λ u h. items_rows f ls u h (line + 1))
+  where
+    go : (y : Result Step Reason) → ((u : State) (h : ℕ) → map (item_of f) (rows_from u h (line + 1) ls) ≡ items_from u f ls)
+        → ◌≡◌ {A = List Item} (map (item_of f)
+        (elim y [
+          | Err r ↦ rows_from st g (line + 1) ls
+          | Ok x ↦
+              let h = group_of st.form g x.code in
+              rows_at x.code h line l.start (take x.count x.spans) ++ rows_from x.state h (line + 1) ls
+        ]))
+        (elim y [ Err r ↦ items_from st f ls | Ok x ↦ items_at x.code f l.start (take x.count x.spans) ++ items_from x.state f ls ])
+    go (Err r) later = later st g
+    go (Ok x) later =
+        map-append (item_of f) (rows_at x.code (group_of st.form g x.code) line l.start (take x.count x.spans)) _
+        ∙ ap₂ ◌++◌ (items_at_lem f (take x.count x.spans) x.code _ line l.start) (later x.state _)
 
 -- nothing is left of no lines
 pub end_left : (first : Bool) (form : Form) (st : State) (f : List ℕ) (ls : List Line) → ls ≡ [] → written_from first form (items_from st f ls) ≡ []
@@ -181,25 +197,27 @@ end_left false form st f ls e = rw e
 
 -- ---- a message by its number, where it is accepted and found
 
-module _ (f : List ℕ) (k n : ℕ) (e : judge_of f k ≡ Ok n) (p : ℕ) (form : Form) (q : FoundIs (Place p form) k f) where
-  found_right : judge_texts (fresh_state form) 1 0 (texts (left f p true)) ≡ Ok n
-  found_right = sym (judge_found f k (accepted_short f k n e) p form q) ∙ e
+module _ (f : List ℕ) (k n : ℕ) (e : judge_of f k ≡ Ok n) (x : Found) (q : FoundIs (Some x) k f) where
+  found_right : judge_texts (fresh_state x.form) 1 0 (texts (left f x.at true)) ≡ Ok n
+  found_right = sym (judge_found f k (accepted_short f k n e) x q) ∙ e
 
-  pub found_writable : Writable f p form
+  pub found_writable : Writable f x
   found_writable = record { limit = accepted_short f k n e; rows = n; right = found_right }
 
-  found_type : type_of (items_from (fresh_state form) f (left f p true)) ≡ form
+  found_type : type_of (items_from (fresh_state x.form) f (left f x.at true)) ≡ x.form
   unfolding FoundIs
   found_type =
-      let x = ends_of p (drop p f) in
-      let l = line_at f p x in
-      let m = up_more f p x q.1 refl true refl in
-      let h = from_head (lines f) k l (rest_of f x) (q.0 ∙ line_left f p x q.1 refl) in
-      rw m (message_type form f l (up_to false (rest_of f x)) n h (rw m at found_right))
+      let p = x.at in
+      let y = ends_of p (drop p f) in
+      let l = line_at f p y in
+      let m = up_more f p y q.1 refl true refl in
+      let h = from_head (lines f) k l (rest_of f y) (q.0 ∙ line_left f p y q.1 refl) in
+      rw m (message_type x.form f l (up_to false (rest_of f y)) n h (rw m at found_right))
 
   -- what is written from the place on is the message in plain form
-  pub found_plain : plain_from f p form ≡ plain_of f k
+  pub found_plain : plain_from f x ≡ plain_of f k
   unfolding plain_of
   found_plain =
-      let is : map (item_of f) (rows_of f k) ≡ items_from (fresh_state form) f (left f p true) = ap (map (item_of f)) (found_rows f k p form q) ∙ items_rows f (left f p true) (fresh_state form) 0 1 in
+      let is : map (item_of f) (rows_of f k) ≡ items_from (fresh_state x.form) f (left f x.at true) =
+      ap (map (item_of f)) (found_rows f k x q) ∙ items_rows f (left f x.at true) (fresh_state x.form) 0 1 in
       rw (is, found_type)

@@ -8,19 +8,11 @@ ghost use Rattle.write.specs.Written.{fitted, written_of, buffer_after};
 ghost use Rattle.ink.specs.Ink.{inked, Room};
 ghost use Rattle.write.specs.Inner.{Held, held, values_of, ValuesHeld, text_at, name_of, Named, leads_of, break_of, line_of, plain_from, Writable};
 
-use grammar::Form;
 use ink::put;
-use judge::{Met, Sighted};
+use judge::{Found, Refusal};
 use lines::Span;
 use reasons::Reason;
 use step::{State, Step};
-
-// A message written whole, with its length, or why it is not.
-#[derive(Clone, Copy)]
-pub enum Written {
-    Whole(u32),
-    Refused(Reason, u32),
-}
 
 // A row's value, out of the line that starts at `at`.
 fn put_value(
@@ -173,25 +165,20 @@ fn put_line(
 }
 
 // A walk along the message that starts at a place, with the step that judging takes: its plain form is written from the buffer's start on, or only measured.
-fn walk(buffer: &mut [u8], feed: &[u8], from: usize, form: Form, writing: bool) -> usize
-    requires writable { Writable feed.now from form }
-    requires form_in_bounds { writing ≡ true → length (plain_from feed.now from form) ≤ length buffer.old }
-    ensures answer { result ≡ length (plain_from feed.now from form) }
-    ensures buffer { buffer.new ≡ inked writing 0 (plain_from feed.now from form) buffer.old }
+fn walk(buffer: &mut [u8], feed: &[u8], found: Found, writing: bool) -> usize
+    requires writable { Writable feed.now found }
+    requires form_in_bounds { writing ≡ true → length (plain_from feed.now found) ≤ length buffer.old }
+    ensures answer { result ≡ length (plain_from feed.now found) }
+    ensures buffer { buffer.new ≡ inked writing 0 (plain_from feed.now found) buffer.old }
     ensures few { result ≤ 4294967295 }
 {
+    let from = found.at;
     let mut at = from;
     let mut n: usize = 0;
     let mut first = true;
-    let mut state = State::fresh(form);
-    loop {
-        let moved = judge::next_line(feed, at, at == from, state, true); // sure: the message is right
-        let met = moved.met;
-        match met {
-            Met::End => return n,
-            Met::Offence(_) => return n,
-            Met::Within => {}
-        }
+    let mut state = State::fresh(found.form);
+    // sure: the message is right, so that no line offends
+    while let Ok(Some(moved)) = judge::next_line(feed, at, at == from, state, true) {
         let step = moved.step;
         if 0 < step.count {
             n = put_line(buffer, n, feed, at, step, first, writing);
@@ -200,30 +187,29 @@ fn walk(buffer: &mut [u8], feed: &[u8], from: usize, form: Form, writing: bool) 
         state = step.state;
         at = moved.next;
     }
+    n
 }
 
 // A message that is right, measured first: nothing is written before it is known to fit.
 #[tactic(auto, using(crate::proofs::Fits::fitted_no, crate::proofs::Fits::fitted_whole, ink::proofs::Laws::put_whole), unfolding(crate::specs::Written::buffer_after, ink::specs::Ink::inked))]
-fn write_found(buffer: &mut [u8], feed: &[u8], from: usize, form: Form) -> Written
-    requires { Writable feed.now from form }
-    ensures answer { result ≡ fitted (plain_from feed.now from form) (length buffer.old) }
-    ensures buffer { buffer.new ≡ buffer_after result (plain_from feed.now from form) buffer.old }
+fn write_found(buffer: &mut [u8], feed: &[u8], found: Found) -> Result<u32, Refusal>
+    requires { Writable feed.now found }
+    ensures answer { result ≡ fitted (plain_from feed.now found) (length buffer.old) }
+    ensures buffer { buffer.new ≡ buffer_after result (plain_from feed.now found) buffer.old }
 {
-    let length = walk(buffer, feed, from, form, false);
+    let length = walk(buffer, feed, found, false);
     if buffer.len() < length {
-        return Written::Refused(Reason::NoRoom, 0);
+        return Err(Reason::NoRoom.into());
     }
-    walk(buffer, feed, from, form, true);
-    Written::Whole(length as u32)
+    walk(buffer, feed, found, true);
+    Ok(length as u32)
 }
 
 // Judges a message and, where it is right and the buffer has room, writes it there in plain form.
-pub fn write(feed: &[u8], message: usize, buffer: &mut [u8]) -> Written
+pub fn write(feed: &[u8], message: usize, buffer: &mut [u8]) -> Result<u32, Refusal>
     ensures answer { result ≡ written_of feed.now message (length buffer.old) }
     ensures buffer { buffer.new ≡ buffer_after result (plain_of feed.now message) buffer.old }
 {
-    match judge::sight(feed, message) {
-        Sighted::Wrong(reason, line) => Written::Refused(reason, line),
-        Sighted::Right(at, form, _) => write_found(buffer, feed, at, form),
-    }
+    let sighted = judge::sight(feed, message)?;
+    write_found(buffer, feed, sighted.found)
 }

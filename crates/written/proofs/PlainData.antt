@@ -12,7 +12,6 @@ use Rattle.words.specs.Words.{bytes, agrees, begins, run}
 use Rattle.words.proofs.Laws.{run-le, run_stop}
 use Rattle.lines.specs.Text.{is_blank, is_odd, blanks, cut_end, trim_of, equals_at, heading_of, comment_of, assignment_of, split_of, no_span}
 use Rattle.lines.specs.declared.Span.{Span}
-use Rattle.lines.specs.declared.Heading.TheVariants as Kinds
 use Rattle.lines.proofs.Laws.{heads_no, comment_other}
 use Rattle.values.specs.Number.{is_number}
 use Rattle.epochs.specs.Epoch.{epoch_of}
@@ -27,7 +26,7 @@ use Rattle.written.proofs.Spaced.{parts, Respaced}
 use Rattle.written.proofs.Trimmed.{cut_more}
 use Rattle.write.proofs.Readings.{whether, DataLine, Clean, step_filled}
 use Rattle.write.proofs.Names.{Meta, start, stop, meta_none}
-use Rattle.std.specs.Prelude.{Some, None}
+use Rattle.std.specs.Prelude.{Some, None, Ok}
 
 -- ---- a text that begins with a digit
 
@@ -70,14 +69,14 @@ module _ (c : ℕ) (r : List ℕ) (h : 48 ≤ c) (k : c ≤ 57) where
   unfolding bytes
   no_comment = comment_other (c ∷ r) 0 no_blanks (no_word (bytes "COMMENT") (omega arith))
 
-  no_heading : heading_of (c ∷ r) ≡ Kinds.Nothing
+  no_heading : heading_of (c ∷ r) ≡ None
   unfolding bytes heading_of
   no_heading =
       rw (heads_no (bytes "CCSDS_OPM_VERS") (c ∷ r) 0 no_blanks (no_word (bytes "CCSDS_OPM_VERS") (omega arith)), heading_of)
       (rw (heads_no (bytes "CCSDS_OEM_VERS") (c ∷ r) 0 no_blanks (no_word (bytes "CCSDS_OEM_VERS") (omega arith))))
 
   -- nor is it a META line
-  no_meta : (f : Form) → meta_code f (c ∷ r) ≡ 0
+  no_meta : (f : Form) → meta_code f (c ∷ r) ≡ None
   no_meta f = meta_none f (c ∷ r) (λ n m. omega (arith, meta_first m))
 
   -- blanks cut at both ends, it begins where it began
@@ -87,7 +86,7 @@ module _ (c : ℕ) (r : List ℕ) (h : 48 ≤ c) (k : c ≤ 57) where
       let e : cut_end (c ∷ r) ≡ suc (cut_end r) = cut_more c r (rw no_blank (and-false (eqb (cut_end r) 0))) in
       rw e (rw (no_blank, run))
 
-heading_none : {q : List ℕ} → Dated q → heading_of q ≡ Kinds.Nothing
+heading_none : {q : List ℕ} → Dated q → heading_of q ≡ None
 heading_none (dated h k) = no_heading _ _ h k
 
 -- ---- a text with no `=`
@@ -129,7 +128,7 @@ module _ (s : List ℕ) where
   by_values (p ∷ ps) v vs e = let k : parts s ps ≡ vs = cc in (cc, numbers_are ps ∙ ap numbers k)
 
 -- a data line that is right has seven rows
-fields_right : (st : State) (q : List ℕ) (t : Instant) → DataLine st q t → fields_of st q ≡ seven_rows (past_data st t) (split_of q).spans
+fields_right : (st : State) (q : List ℕ) (t : Instant) → DataLine st q t → fields_of st q ≡ Ok (seven_rows (past_data st t) (split_of q).spans)
 unfolding data_of data_at
 fields_right st q t d =
     fields_in_lem st q Oem d.form
@@ -161,12 +160,12 @@ module _ (st : State) (s : List ℕ) (t : Instant) (a : assignment_of s ≡ None
         timely = d.timely;
       }
 
-  pub data_plain : step_of st (written w) ≡ seven_rows (past_data st t) (split_of (written w)).spans
+  pub data_plain : step_of st (written w) ≡ Ok (seven_rows (past_data st t) (split_of (written w)).spans)
   data_plain =
       step_fields st written_dated
       (record { short = omega arith; plain = w.each (λ b. not (is_odd b)) refl k.plain })
       (equals_none (written w) (w.each (λ b. not (eqb b 61)) refl (none_equals s a)))
       ∙ fields_right st (written w) t written_data
 
-  pub data_heading : heading_of (written w) ≡ Kinds.Nothing
+  pub data_heading : heading_of (written w) ≡ None
   data_heading = heading_none written_dated

@@ -22,7 +22,7 @@ use Rattle.write.proofs.Names.{parted}
 use Rattle.written.proofs.Bytes.{run_past, pass_split, pass_part, at_run}
 use Rattle.step.specs.Step.{part}
 use Rattle.step.proofs.Laws.{part_length, trim_inside}
-use Rattle.std.specs.Prelude.{Some, None}
+use Rattle.std.specs.Prelude.{Some}
 
 abbrev pub span : ℕ → ℕ → Span
 span a b = record { from = a; to = b }

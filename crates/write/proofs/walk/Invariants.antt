@@ -11,8 +11,8 @@ use Rattle.ink.proofs.Laws.{Left}
 use Rattle.write.proofs.Walks.{Accepts}
 use Rattle.write.proofs.walk.Given as goal
 
-abbrev pub invariant-loop-step : goal.invariant-loop-step
-invariant-loop-step l = Accepts l.state (left l.feed l.at (eqb l.at l.from)) × Left l.writing 0 (plain l.initial.state.form (items_from l.initial.state l.feed (left l.feed l.from true))) l.initial.buffer l.n (written_from l.first l.state.form (items_from l.state l.feed (left l.feed l.at (eqb l.at l.from)))) l.buffer × (l.n + 35 * (length l.feed - l.at) ≤ 35 * length l.feed) × (l.from ≤ l.at)
+abbrev pub invariant-loop-moved : goal.invariant-loop-moved
+invariant-loop-moved l = Accepts l.state (left l.feed l.at (eqb l.at l.from)) × Left l.writing 0 (plain l.initial.state.form (items_from l.initial.state l.feed (left l.feed l.from true))) l.initial.buffer l.n (written_from l.first l.state.form (items_from l.state l.feed (left l.feed l.at (eqb l.at l.from)))) l.buffer × (l.n + 35 * (length l.feed - l.at) ≤ 35 * length l.feed) × (l.from ≤ l.at)
 
-abbrev pub decreases-loop-step : goal.decreases-loop-step
-decreases-loop-step l = length l.feed - l.at
+abbrev pub decreases-loop-moved : goal.decreases-loop-moved
+decreases-loop-moved l = length l.feed - l.at
