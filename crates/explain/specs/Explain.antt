@@ -1,9 +1,9 @@
 -- Why a message is refused, by document 02, (vii). Places are positions in the feed, from 0.
 -- Assumes nothing.
-use Rattle.std.specs.Prelude.{ℕ, ◌+◌, ◌-◌, List, [], ◌∷◌, Bool, true, false, not, ◌&&◌, ltb, length, Result, Ok, Err}
+use Rattle.std.specs.Prelude.{ℕ, ◌+◌, ◌-◌, List, [], ◌∷◌, Bool, true, false, not, ◌&&◌, ltb, length, take, drop, Some, None, Result, Ok, Err}
 use Rattle.reasons.specs.declared.Reason.{Reason}
 use Rattle.reasons.specs.declared.Reason.TheVariants as Reasons
-use Rattle.lines.specs.Feed.{Line, lines}
+use Rattle.lines.specs.Feed.{Line, lines, text_len}
 use Rattle.grammar.specs.Order.{next_of}
 use Rattle.step.specs.Step.{fresh_state, step_of}
 use Rattle.step.specs.declared.State.{State}
@@ -12,6 +12,7 @@ use Rattle.parts.specs.Parts.{offending}
 use Rattle.explain.specs.Codes.{no_codes, codes_of, codes_for}
 use Rattle.explain.specs.declared.Explained.{Explained}
 use Rattle.judge.specs.declared.Refusal.{Refusal}
+use Rattle.judge.specs.declared.Stop.{Stop}
 
 -- "1, 2 and acceptance are answered as such"
 abbrev pub plainly : Result ℕ Refusal → Explained
@@ -39,6 +40,14 @@ explain_from n first st line rows (l ∷ ls) =
       | true ↦ ended st l.start line rows
       | false ↦
           elim (step_of st l.text) [ Err r ↦ blamed st line l r | Ok x ↦ explain_from n false x.state (line + 1) (rows + x.count) ls ]
+    ]
+
+-- where the walk along a message of a feed came to its end, in the same words: a line that offends stands there, or the message is over
+unfoldable pub told : List ℕ → Stop → Explained
+told f x =
+    elim x.offence [
+      | Some r ↦ blamed x.state x.line (record { start = x.at; text = take (text_len (drop x.at f)) (drop x.at f) }) r
+      | None ↦ ended x.state x.at x.line x.rows
     ]
 
 -- NO_MESSAGE where there are no lines

@@ -264,3 +264,40 @@ placed f from e h q =
     let m = length-drop (text_len s) s in
     let k : 0 < line_len s = len_some s (omega arith) in
     rw q (record { start = omega arith; end = omega arith; on = omega arith; ends = omega arith; next = omega arith })
+
+-- at the feed's end too, where no line stands, the text of a line ends in the feed
+pub line_within : (f : List ℕ) (at : ℕ) (e : Ends) → at ≤ length f → e ≡ ends_of at (drop at f) → (at ≤ e.end) × (e.end ≤ length f)
+unfolding ends_of
+line_within f at e h q = rw q (omega arith, omega (arith, run-le (λ b. not (is_end b)) (drop at f), length-drop at f))
+
+-- ---- an induction over a feed's lines
+
+-- the line that stands first
+abbrev pub line_first : ℕ → List ℕ → Line
+line_first at s = record { start = at; text = take (text_len s) s }
+
+-- a line takes no more than there is
+pub len_le : (s : List ℕ) → 0 < length s → line_len s ≤ length s
+unfolding ends_of
+len_le s h = omega (arith, (placed s 0 (ends_of 0 s) h refl).next)
+
+-- what holds of no lines at a feed's end, and of the lines from one on where it holds of those past it, holds of all
+module _ (f : List ℕ) (P : ℕ → List Line → Type 0) (none : P (length f) [])
+    (more : (at : ℕ) (s : List ℕ) (ls : List Line) → s ≡ drop at f → 0 < length s → P (at + line_len s) ls → P at (line_first at s ∷ ls)) where
+  none_there : (at : ℕ) → at ≤ length f → [] ≡ drop at f → P at (lines_at at [])
+  none_there at k e =
+      let z : at ≡ length f = omega (arith, ap length e, length-drop at f) in
+      rw (lines_end at, z) none
+
+  pub by_lines_to : (n at : ℕ) (s : List ℕ) → length s ≤ n → at ≤ length f → s ≡ drop at f → P at (lines_at at s)
+  by_lines_to zero at [] h k e = none_there at k e
+  by_lines_to (suc n) at [] h k e = none_there at k e
+  by_lines_to zero at (b ∷ s) h k e = absurd (not-suc-le-zero h)
+  by_lines_to (suc n) at (b ∷ s) h k e =
+      let w = b ∷ s in
+      let i = by_lines_to n (at + line_len w) (drop (line_len w) w) (omega (arith, len_some w (omega arith), length-drop (line_len w) w))
+      (omega (arith, len_le w (omega arith), ap length e, length-drop at f)) (ap (drop (line_len w)) e ∙ drop-drop (line_len w) at f) in
+      rw (lines_next at w (omega arith)) (more at w _ e (omega arith) i)
+
+  pub by_lines : P 0 (lines f)
+  by_lines = by_lines_to (length f) 0 f (omega arith) (omega arith) refl
