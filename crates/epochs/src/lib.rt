@@ -96,7 +96,7 @@ fn days_before(leap: bool, month: usize) -> u64
     DAYS_BEFORE[month] + u64::from(leap && 2 < month)
 }
 
-// The day of the year that is a day of a month; 0 where there is no such day.
+// The day of the year that is a day of a month; 0, as in the definition, where there is no such day.
 #[tactic(auto, unfolding(crate::specs::Epoch::month_day), using(crate::proofs::Laws::no_days))]
 fn month_day(leap: bool, month: u64, day: u64) -> u64
     ensures value { result ≡ month_day leap month day }
@@ -105,14 +105,14 @@ fn month_day(leap: bool, month: u64, day: u64) -> u64
     if day < 1 || 12 < month {
         return 0;
     }
-    let m = month as usize;
+    let m = month as usize; // a u64 has no usize::from
     if month_days(leap, m) < day {
         return 0;
     }
     days_before(leap, m) + day
 }
 
-// A day of the year; 0 where there is no such day.
+// A day of the year; 0, as in the definition, where there is no such day.
 #[tactic(auto, unfolding(crate::specs::Epoch::year_day))]
 fn year_day(leap: bool, day: u64) -> u64
     ensures value { result ≡ year_day leap day }

@@ -9,12 +9,12 @@ use native.Mathlib.Omega.{arith}
 use lib.Dec.{eqb, leb}
 use borrow.Author.Tests.{le-leb, lt-leb}
 use lib.ListN.{length, get_or, take, drop, drop_of_length-le}
-use lib.Seq.{drop-cons}
+use lib.Seq.{drop-cons, length-take-le}
 use Rattle.words.specs.Words.{is_digit}
-use Rattle.words.proofs.Laws.{part_from, run-le}
-use Rattle.values.specs.Number.{sign_len, digits, unsigned, digits_from}
+use Rattle.words.proofs.Laws.{run-le}
+use Rattle.values.specs.Number.{sign_len, digits, digits_from}
 
--- ---- a part of a list that begins where a count of the list ends
+-- ---- the sign and the digits that stand first are in the list
 
 either_le : (t : Bool) (a b n : ℕ) → a ≤ n → b ≤ n → elim t [ true ↦ a | false ↦ b ] ≤ n
 either_le true a b n h k = h
@@ -25,13 +25,11 @@ unfolding sign_len
 sign_le [] = omega arith
 sign_le (b ∷ s) = either_le (eqb b 43 || eqb b 45) 1 0 (suc (length s)) (omega arith) (omega arith)
 
--- where the list is itself lent as a part
-pub past : {A : Type 0} (g : ℕ → List ℕ → A) (f : List ℕ → ℕ) (s t : List ℕ) (n : ℕ) → t ≡ s → n ≡ f t
-    → g n (take (length t - n) (drop n t)) ≡ g (f s) (drop (f s) s)
-past g f s t n e k = rw (part_from t n, k, e)
+pub digits_le : (s : List ℕ) → digits s ≤ length s
+digits_le s = run-le (λ b. is_digit b) s
 
-pub past_sign : (s : List ℕ) (n : ℕ) → n ≡ sign_len s → take (length s - n) (drop n s) ≡ unsigned s
-past_sign s n k = past (λ _ u. u) sign_len s s n refl k
+pub digits_taken : (s : List ℕ) (n : ℕ) → n ≡ digits s → n ≡ length (take n s)
+digits_taken s n e = sym (length-take-le n s (rw e (digits_le s)))
 
 -- ---- what digits say, seen from a place in a list
 
@@ -56,11 +54,17 @@ module _ (s : List ℕ) (i v w : ℕ) where
   pub sum_more : (d : ℕ) → w ≡ digits_from v (drop i s) → i < length s → d ≡ get_or s i 0 - 48 → w ≡ digits_from (v * 10 + d) (drop (i + 1) s)
   sum_more d q h e = rw e (q ∙ digits_more v s i h)
 
+  pub sum_ten : w ≡ digits_from v (drop i s) → i < length s → v * 10 ≤ w
+  sum_ten q h = omega (arith, sum_more (get_or s i 0 - 48) q h refl, digits_least (v * 10 + (get_or s i 0 - 48)) (drop (i + 1) s))
+
+  pub sum_least : (d : ℕ) → w ≡ digits_from v (drop i s) → i < length s → d ≡ get_or s i 0 - 48 → v * 10 + d ≤ w
+  sum_least d q h e = omega (arith, sum_more d q h e, digits_least (v * 10 + d) (drop (i + 1) s))
+
+  pub sum_all : w ≡ digits_from v (drop i s) → length s ≤ i → v ≡ w
+  sum_all q h = omega (arith, digits-end v s i h)
+
   pub sum_over : (d top : ℕ) → w ≡ digits_from v (drop i s) → i < length s → d ≡ get_or s i 0 - 48 → top < v * 10 + d → false ≡ leb w top
-  sum_over d top q h e k = sym (lt-leb w top (omega (arith, sum_more d q h e, digits_least (v * 10 + d) (drop (i + 1) s))))
+  sum_over d top q h e k = sym (lt-leb w top (omega (arith, sum_least d q h e)))
 
   pub sum_end : (top : ℕ) → w ≡ digits_from v (drop i s) → length s ≤ i → v ≤ top → true ≡ leb w top
-  sum_end top q h k = sym (le-leb w top (omega (arith, digits-end v s i h)))
-
-pub digits_le : (s : List ℕ) → digits s ≤ length s
-digits_le s = run-le (λ b. is_digit b) s
+  sum_end top q h k = sym (le-leb w top (omega (arith, sum_all q h)))
