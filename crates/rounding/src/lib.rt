@@ -79,6 +79,7 @@ fn lower(minus: bool, size: u64, places: u64) -> Said
 }
 
 // No power of ten is made: what multiplies and what divides cancel first.
+#[tactic(auto, using(crate::proofs::Rounds::scaled_down, crate::proofs::Rounds::scaled_up))]
 fn scale(minus: bool, digits: u64, up: u64, down: u64) -> Said
     ensures { result ≡ said_of minus (rounded (digits * 10 ^ up) (10 ^ down)) }
 {
