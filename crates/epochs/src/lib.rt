@@ -182,6 +182,7 @@ fn year_at(text: &[u8]) -> u64
 }
 
 // The instant of a day of the year, with the clock from a place on.
+#[tactic(auto, unfolding(crate::specs::Epoch::timed_of))]
 fn timed(text: &[u8], day: u64, at: usize, sixty: bool) -> Epoch
     requires { (day ≤ 366) × (at < 40) }
     ensures { result ≡ timed_of text.now day at sixty }
@@ -210,6 +211,7 @@ fn timed(text: &[u8], day: u64, at: usize, sixty: bool) -> Epoch
 }
 
 // Whoever has an epoch read says whether second 60 may stand.
+#[tactic(auto, unfolding(crate::specs::Epoch::epoch_of, words::specs::Words::bytes))]
 pub fn epoch_of(text: &[u8], sixty: bool) -> Epoch
     ensures { result ≡ epoch_of text.now sixty }
 {
