@@ -1,43 +1,34 @@
 -- Laws of the definitions on epochs, one a case.
 -- Assumes nothing.
-use mathlib.Core.Path.{◌≡◌, refl, sym}
+use mathlib.Core.Path.{◌≡◌, refl, sym, ◌∙◌}
 use mathlib.Core.List.{List, [], ◌∷◌}
 use native.Mathlib.Omega.{arith}
-use mathlib.Core.Bool.{Bool, true, false, ◌&&◌, not-eq-not}
+use mathlib.Core.Bool.{Bool, true, false, ◌&&◌, not-eq-not, and-true, and-false}
 use Prim.Native.Nat.{ℕ, zero, suc, ◌+◌, ◌≤◌, ◌<◌}
 use native.Mathlib.Nat.{le_of_suc-le-suc, not-suc-le-zero}
 use lib.Dec.{eqb, leb, ltb}
 use Rattle.std.specs.Int.{from_bool}
 use Rattle.epochs.specs.declared.TheConstants.{MONTH_DAYS, DAYS_BEFORE}
-use lib.ListN.{length, get_or, get_or-eq_default}
+use lib.ListN.{drop, length, get_or, get_or-eq_default}
 use borrow.Author.Tests.{leb-true, eqb-true}
-use Rattle.words.proofs.Laws.{agrees-le}
-use Rattle.words.specs.Words.{agrees}
-use Rattle.std.specs.List.{fold, zip}
+use Rattle.words.proofs.Laws.{agrees-le, agrees-end, agrees_more, agrees_stop}
 use Rattle.epochs.specs.Epoch.{fits, shaped, month_days, days_before}
 
 -- no shorter text has the shape
 pub shorter : (w s : List ℕ) → length s < length w → false ≡ shaped w s
 shorter w s h = sym (not-eq-not.0 (λ e. omega (arith, agrees-le _ _ _ e)))
 
--- in any other text the shape is what the bytes beside each other say
-fold_false : (f : ℕ → ℕ → Bool) (ps : List (ℕ × ℕ)) → fold (λ kept p. kept && f p.0 p.1) false ps ≡ false
-fold_false f [] = refl
-fold_false f (p ∷ ps) = fold_false f ps
+-- a walk along both that keeps whether every byte so far fitted: that and what is left of both are what the whole was
+module _ (w s : List ℕ) (i : ℕ) (kept : Bool) (q : shaped w s ≡ kept && shaped (drop i w) (drop i s)) where
+  pub shape_more : i < length w → i < length s → fits (get_or w i 0) (get_or s i 0) ≡ true
+      → shaped w s ≡ kept && shaped (drop (i + 1) w) (drop (i + 1) s)
+  shape_more h k e = q ∙ rw (agrees_more (λ p b. fits p b) w s i h k e)
 
-agrees_folds : (f : ℕ → ℕ → Bool) (w s : List ℕ) → length w ≤ length s → fold (λ kept p. kept && f p.0 p.1) true (zip w s) ≡ agrees f w s
-unfolding agrees
-agrees_folds f [] s h = refl
-agrees_folds f (a ∷ w) [] h = absurd (omega arith)
-agrees_folds f (a ∷ w) (b ∷ s) h = go (f a b) (agrees_folds f w s (omega arith))
-  where
-    go : (t : Bool) → fold (λ kept p. kept && f p.0 p.1) true (zip w s) ≡ agrees f w s
-        → fold (λ kept p. kept && f p.0 p.1) t (zip w s) ≡ t && agrees f w s
-    go true e = e
-    go false e = fold_false f (zip w s)
+  pub shape_stop : i < length w → i < length s → fits (get_or w i 0) (get_or s i 0) ≡ false → shaped w s ≡ false
+  shape_stop h k e = q ∙ rw (agrees_stop (λ p b. fits p b) w s i h k e, and-false)
 
-pub shape_folds : (w s : List ℕ) → length w ≤ length s → fold (λ kept p. kept && fits p.0 p.1) true (zip w s) ≡ shaped w s
-shape_folds w s h = agrees_folds (λ p b. fits p b) w s h
+  pub shape_end : length w ≤ i → kept ≡ shaped w s
+  shape_end h = sym (q ∙ rw (agrees-end (λ p b. fits p b) w s i h, and-true))
 
 -- ---- a test of every number below a bound, which antt computes
 

