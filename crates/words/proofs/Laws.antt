@@ -3,14 +3,20 @@
 use mathlib.Core.Path.{◌≡◌, refl, sym, ap, ap₂, ◌∙◌}
 use mathlib.Core.List.{List, [], ◌∷◌, ◌++◌}
 use mathlib.Core.Bool.{Bool, true, false, ◌&&◌, and-true, and-false, and-eq-true_iff, false≢true, true≢false}
-use Prim.Native.Nat.{ℕ, zero, suc, ◌+◌, ◌-◌, ◌*◌, ◌/◌, ◌≤◌, ◌<◌, suc-le-suc}
+use Prim.Native.Nat.{ℕ, zero, suc, ◌+◌, ◌-◌, ◌*◌, ◌/◌, ◌≤◌, ◌<◌, min, suc-le-suc}
 use native.Mathlib.Nat.{suc-ne-zero, div-mul-le_self, div-eq_of_lt-le}
 use native.Mathlib.Numerals.{add-one}
 use native.Mathlib.Omega.{arith}
-use lib.Dec.{eqb}
+use lib.Dec.{eqb, eqb-suc-zero, eqb-zero-suc, eqb-suc-suc}
 use lib.ListN.{length, get_or, set, take, drop, length-drop, drop_of_length-le}
 use lib.Seq.{drop-cons, drop-drop, take_all, sets}
-use borrow.Author.Tests.{eqb-true, ne_eqb}
+use borrow.Author.Tests.{eqb-true, eq-eqb, ne_eqb}
+use Rattle.std.specs.Prelude.{cond}
+use Rattle.std.specs.List.{prefix_len, take_while, starts_with}
+use Rattle.std.specs.Simd.{first_chunks}
+use Rattle.std.specs.Cmp.Lexicographic.{pointwise}
+use Rattle.std.proofs.lemmas.List.Folds.{length-prefix_len}
+use Rattle.std.proofs.lemmas.List.{drop_min}
 use Rattle.words.specs.Words.{agrees, begins, run, every, Each, blocks_of, is_word}
 
 -- ---- a run of bytes that pass a test, seen from a place in a list
@@ -88,6 +94,46 @@ run-some p (b ∷ s) (suc n) e = go (p b) e (run-some p s n)
         → elim t [ true ↦ run p s + 1 | false ↦ 0 ] < suc n
     go true q g = omega (arith, g q)
     go false q g = omega arith
+
+-- ---- our words beside std's
+
+pub prefix_is : (p : ℕ → Bool) (s : List ℕ) → prefix_len p s ≡ run p s
+unfolding run
+prefix_is p [] = refl
+prefix_is p (b ∷ s) = go (p b) (prefix_is p s)
+  where
+    go : (t : Bool) → prefix_len p s ≡ run p s → cond t (1 + prefix_len p s) 0 ≡ elim t [ true ↦ run p s + 1 | false ↦ 0 ]
+    go true e = omega (arith, e)
+    go false e = refl
+
+-- the bytes that a walk takes while they pass
+pub taken-is : (p : ℕ → Bool) (s : List ℕ) → length (take_while p s) ≡ run p s
+taken-is p s = length-prefix_len p s ∙ prefix_is p s
+
+-- one byte more, on a walk that has no way out
+pub every-push : (p : ℕ → Bool) (s : List ℕ) (b : ℕ) (kept now : Bool) → kept ≡ every p s → now ≡ kept && p b → now ≡ every p (s ++ (b ∷ []))
+unfolding every
+every-push p [] b kept now e q = q ∙ ap (λ (t : Bool). t && p b) e ∙ sym (and-true (p b))
+every-push p (x ∷ s) b kept now e q = q ∙ ap (λ (t : Bool). t && p b) e ∙ go (p x) ∙ ap (λ (t : Bool). p x && t) (every-push p s b (every p s) (every p s && p b) refl refl)
+  where
+    go : (t : Bool) → (t && every p s) && p b ≡ t && (every p s && p b)
+    go true = refl
+    go false = refl
+
+-- the whole blocks at the front that pass
+chunks_is : (p : ℕ → Bool) (n : ℕ) (s : List ℕ) → n * 16 ≤ length s → length s < n * 16 + 16 → prefix_len (every p) (first_chunks 16 n s) ≡ run p s / 16
+chunks_is p zero s h k = omega (arith, run-le p s)
+chunks_is p (suc n) s h k =
+    let l : length (drop 16 s) ≡ length s - 16 = length-drop 16 s in
+    go (every p (take 16 s)) refl (chunks_is p n (drop 16 s) (omega arith) (omega arith))
+  where
+    go : (t : Bool) → every p (take 16 s) ≡ t → prefix_len (every p) (first_chunks 16 n (drop 16 s)) ≡ run p (drop 16 s) / 16
+        → cond t (1 + prefix_len (every p) (first_chunks 16 n (drop 16 s))) 0 ≡ run p s / 16
+    go true e q = omega (arith, run-all p s 16 (omega arith) e, q)
+    go false e q = omega (arith, run-some p s 16 e)
+
+pub passed-is : (p : ℕ → Bool) (s : List ℕ) → length (take_while (every p) (first_chunks 16 (length s / 16) s)) ≡ run p s / 16
+passed-is p s = length-prefix_len (every p) (first_chunks 16 (length s / 16) s) ∙ chunks_is p (length s / 16) s (omega arith) (omega arith)
 
 -- k blocks passed, from one place to another
 pub record Blocks (p : ℕ → Bool) (s : List ℕ) (from i : ℕ) : Type 0 where
@@ -175,6 +221,34 @@ agrees-le f (a ∷ w) (b ∷ s) e = go (f a b) e (agrees-le f w s)
 pub begins-le : (w s : List ℕ) → begins w s ≡ true → length w ≤ length s
 begins-le w s e = agrees-le (λ a b. eqb b a) w s e
 
+eqb-sym : (a b : ℕ) → eqb a b ≡ eqb b a
+eqb-sym a b = go (eqb a b) refl
+  where
+    go : (t : Bool) → eqb a b ≡ t → t ≡ eqb b a
+    go true e = sym (eq-eqb b a (sym (eqb-true a b e)))
+    go false e = sym (ne_eqb b a (λ q. true≢false (sym (eq-eqb a b (sym q)) ∙ e)))
+
+same_start : (w s : List ℕ) → pointwise eqb w (take (length w) s) ≡ begins w s
+unfolding agrees
+same_start [] s = refl
+same_start (a ∷ w) [] = refl
+same_start (a ∷ w) (b ∷ s) = ap₂ ◌&&◌ (eqb-sym a b) (same_start w s)
+
+pub start_is : (w s : List ℕ) → starts_with eqb s w ≡ begins w s
+start_is w s = same_start w s
+
+pub word_is : (w s : List ℕ) → pointwise eqb s w ≡ is_word w s
+unfolding agrees is_word
+word_is [] [] = refl
+word_is [] (b ∷ s) = rw (eqb-suc-zero (length s)) refl
+word_is (a ∷ w) [] = rw (eqb-zero-suc (length w)) refl
+word_is (a ∷ w) (b ∷ s) = rw (eqb-suc-suc (length s) (length w)) (ap (λ (t : Bool). eqb b a && t) (word_is w s) ∙ go (eqb b a) (eqb (length s) (length w)))
+  where
+    go : (t u : Bool) → t && (u && begins w s) ≡ u && (t && begins w s)
+    go true u = refl
+    go false true = refl
+    go false false = refl
+
 -- a text that begins with a word has it there
 pub begins-take : (w s : List ℕ) → begins w s ≡ true → take (length w) s ≡ w
 unfolding agrees
@@ -194,6 +268,10 @@ word-is w s e =
 -- the part from n to the end
 pub part_from : (s : List ℕ) (n : ℕ) → take (length s - n) (drop n s) ≡ drop n s
 part_from s n = take_all (length s - n) (drop n s) (simp length-drop (omega arith))
+
+-- the part from n to the end, where the walk begins no further than the end
+pub rest_is : (s : List ℕ) (n m : ℕ) → m ≡ min n (length s) → take (length s - m) (drop m s) ≡ drop n s
+rest_is s n m e = part_from s m ∙ ap (λ (k : ℕ). drop k s) e ∙ drop_min n s
 
 -- only the empty word stands past the end
 pub begins-past : (w s : List ℕ) (n : ℕ) → length s ≤ n → eqb (length w) 0 ≡ begins w (drop n s)
