@@ -25,7 +25,7 @@ impl Class for Except {
 }
 
 // The text begins with the word.
-#[tactic(auto, using(crate::proofs::Laws::start_is))]
+#[tactic(auto, using(crate::proofs::Laws::begins_by_start))]
 pub fn begins_with(text: &[u8], word: &[u8]) -> bool
     ensures { result ≡ begins word.now text.now }
 {
@@ -33,7 +33,7 @@ pub fn begins_with(text: &[u8], word: &[u8]) -> bool
 }
 
 // The text from `from` on; past its end nothing is left.
-#[tactic(auto, using(crate::proofs::Laws::rest_is))]
+#[tactic(auto, using(crate::proofs::Laws::rest_part))]
 pub fn rest_from(text: &[u8], from: usize) -> &[u8]
     ensures { result.now ≡ drop from text.now }
 {
@@ -48,7 +48,7 @@ pub fn begins_at(text: &[u8], at: usize, word: &[u8]) -> bool
 }
 
 // The text is the word.
-#[tactic(auto, using(crate::proofs::Laws::word_is))]
+#[tactic(auto, using(crate::proofs::Laws::word_by_equal))]
 pub fn is_word(text: &[u8], word: &[u8]) -> bool
     ensures { result ≡ is_word word.now text.now }
 {
