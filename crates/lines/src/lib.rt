@@ -82,11 +82,11 @@ impl Class for InLine {
     }
 }
 
-// Blanks.
+// The blanks.
 #[derive(Clone, Copy)]
-struct Blank;
+struct Blanks;
 
-impl Class for Blank {
+impl Class for Blanks {
     ghost has = { λ _ b. is_blank b };
 
     fn has(self, byte: u8) -> bool {
@@ -138,7 +138,7 @@ pub fn line_at(feed: &[u8], from: usize) -> Ends
 fn blanks_end(text: &[u8], from: usize) -> usize
     ensures { result ≡ from + blanks (drop from text.now) }
 {
-    run_from(text, from, Blank)
+    run_from(text, from, Blanks)
 }
 
 // Where the text ends without the blanks at its end.

@@ -22,14 +22,6 @@ use Rattle.words.specs.Words.{agrees, begins, run, every, Each, blocks_of, is_wo
 -- ---- a run of bytes that pass a test, seen from a place in a list
 
 module _ (p : ℕ → Bool) (s : List ℕ) (i : ℕ) where
-  pub run_end : length s ≤ i → run p (drop i s) ≡ 0
-  unfolding run
-  run_end h = rw (drop_of_length-le s h)
-
-  pub run_more : i < length s → p (get_or s i 0) ≡ true → run p (drop i s) ≡ run p (drop (i + 1) s) + 1
-  unfolding run
-  run_more h e = rw (add-one (i), drop-cons s i 0 h) (rw (e, run))
-
   pub run_stop : i < length s → p (get_or s i 0) ≡ false → run p (drop i s) ≡ 0
   unfolding run
   run_stop h e = rw (drop-cons s i 0 h) (rw (e, run))
@@ -42,18 +34,6 @@ run-le p (b ∷ s) = go (p b) (run-le p s)
     go : (t : Bool) → run p s ≤ length s → elim t [ true ↦ run p s + 1 | false ↦ 0 ] ≤ suc (length s)
     go true h = omega arith
     go false h = omega arith
-
--- ---- a walk along a run: the place and what is left from there make n, what the whole was
-
-module _ (p : ℕ → Bool) (s : List ℕ) (i n : ℕ) where
-  pub walk_more : n ≡ i + run p (drop i s) → i < length s → p (get_or s i 0) ≡ true → n ≡ i + 1 + run p (drop (i + 1) s)
-  walk_more q h e = omega (arith, run_more p s i h e)
-
-  pub walk_stop : n ≡ i + run p (drop i s) → i < length s → p (get_or s i 0) ≡ false → i ≡ n
-  walk_stop q h e = omega (arith, run_stop p s i h e)
-
-  pub walk_end : n ≡ i + run p (drop i s) → length s ≤ i → i ≡ n
-  walk_end q h = omega (arith, run_end p s i h)
 
 -- ---- a walk along a run by whole blocks
 
