@@ -3,7 +3,7 @@
 use mathlib.Core.Path.{◌≡◌, refl, sym, ap, ap₂, ◌∙◌}
 use mathlib.Core.List.{List, [], ◌∷◌, ◌++◌}
 use mathlib.Core.Bool.{Bool, true, false, ◌&&◌, and-true, and-eq-true_iff, false≢true, true≢false}
-use Prim.Native.Nat.{ℕ, zero, suc, ◌+◌, ◌-◌, ◌*◌, ◌/◌, ◌≤◌, ◌<◌, min, suc-le-suc}
+use Prim.Native.Nat.{ℕ, zero, suc, ◌+◌, ◌-◌, ◌*◌, ◌/◌, ◌≤◌, ◌<◌, min, max, suc-le-suc}
 use native.Mathlib.Nat.{div-mul-le_self}
 use native.Mathlib.Numerals.{add-one}
 use native.Mathlib.Omega.{arith}
@@ -22,6 +22,14 @@ use Rattle.words.specs.Words.{agrees, begins, run, every, Each, blocks_of, is_wo
 -- ---- a run of bytes that pass a test, seen from a place in a list
 
 module _ (p : ℕ → Bool) (s : List ℕ) (i : ℕ) where
+  pub run_end : length s ≤ i → run p (drop i s) ≡ 0
+  unfolding run
+  run_end h = rw (drop_of_length-le s h)
+
+  pub run_more : i < length s → p (get_or s i 0) ≡ true → run p (drop i s) ≡ run p (drop (i + 1) s) + 1
+  unfolding run
+  run_more h e = rw (add-one (i), drop-cons s i 0 h) (rw (e, run))
+
   pub run_stop : i < length s → p (get_or s i 0) ≡ false → run p (drop i s) ≡ 0
   unfolding run
   run_stop h e = rw (drop-cons s i 0 h) (rw (e, run))
@@ -34,6 +42,20 @@ run-le p (b ∷ s) = go (p b) (run-le p s)
     go : (t : Bool) → run p s ≤ length s → elim t [ true ↦ run p s + 1 | false ↦ 0 ] ≤ suc (length s)
     go true h = omega arith
     go false h = omega arith
+
+-- ---- a walk along a run: the place and what is left from there make n, what the whole was
+
+module _ (p : ℕ → Bool) (s : List ℕ) (i n : ℕ) where
+  pub walk_more : n ≡ i + run p (drop i s) → i < length s → p (get_or s i 0) ≡ true → n ≡ i + 1 + run p (drop (i + 1) s)
+  walk_more q h e = omega (arith, run_more p s i h e)
+
+  pub walk_stop : n ≡ i + run p (drop i s) → i < length s → p (get_or s i 0) ≡ false → i ≡ n
+  walk_stop q h e = omega (arith, run_stop p s i h e)
+
+-- the walk ended at the text's end, or it began past it
+pub walk_over : (p : ℕ → Bool) (s : List ℕ) (from i : ℕ) → from + run p (drop from s) ≡ i + run p (drop i s) → length s ≤ i → (from ≤ length s → i ≤ length s)
+    → max from (length s) ≡ from + run p (drop from s)
+walk_over p s from i q h k = grind (arith, q, run_end p s i h, run_end p s from, k)
 
 -- ---- a walk along a run by whole blocks
 
@@ -70,10 +92,6 @@ prefix_is p (b ∷ s) = go (p b) (prefix_is p s)
     go : (t : Bool) → prefix_len p s ≡ run p s → cond t (1 + prefix_len p s) 0 ≡ elim t [ true ↦ run p s + 1 | false ↦ 0 ]
     go true e = omega (arith, e)
     go false e = refl
-
--- the bytes that a walk takes while they pass
-pub taken-is : (p : ℕ → Bool) (s : List ℕ) → length (take_while p s) ≡ run p s
-taken-is p s = length-prefix_len p s ∙ prefix_is p s
 
 -- one byte more, on a walk that has no way out
 pub every-push : (p : ℕ → Bool) (s : List ℕ) (b : ℕ) (kept now : Bool) → kept ≡ every p s → now ≡ kept && p b → now ≡ every p (s ++ (b ∷ []))

@@ -83,10 +83,12 @@ pub fn blocks_from<C: Class>(text: &[u8], from: usize, class: C) -> usize
 pub fn run_from<C: Class>(text: &[u8], from: usize, class: C) -> usize
     ensures { result ≡ from + run (C.has class) (drop from text.now) }
 {
-    from + rest_from(text, from)
-        .iter()
-        .take_while(|byte| class.has(**byte))
-        .count()
+    for at in from..text.len() {
+        if !class.has(text[at]) {
+            return at;
+        }
+    }
+    from.max(text.len())
 }
 
 // The same for a place that is far: whole blocks first.
