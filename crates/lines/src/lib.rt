@@ -78,7 +78,16 @@ impl Class for InLine {
     ghost has = { λ _ b. not (is_end b) };
 
     fn has(self, byte: u8) -> bool {
-        !(byte < 14 && (byte == 13 || byte == 10)) // one comparison for nearly every byte
+        // one comparison tells nearly every byte: `byte != 13 && byte != 10` takes two
+        if byte < 14 {
+            if byte == 13 {
+                return false;
+            }
+            if byte == 10 {
+                return false;
+            }
+        }
+        true
     }
 }
 
