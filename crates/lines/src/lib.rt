@@ -2,11 +2,12 @@
 #![tactic(auto)]
 
 ghost use Rattle.std.specs.Prelude.{◌≡◌, not, ◌+◌, ◌≤◌, ◌<◌, length, drop};
-ghost use Rattle.words.specs.Words.{every, blocks_of};
-ghost use Rattle.lines.specs.Feed.{text_len, end_with, end_len, ends_of};
-ghost use Rattle.lines.specs.Text.{blanks, cut_end, trim_of, is_odd, odd_at, moved, heading_of, heads, comment_of, word_ends, sides_of, assignment_of, split_of};
+ghost use Rattle.lines.specs.Feed.{is_end, text_len, end_with, end_len, ends_of};
+ghost use Rattle.lines.specs.Text.{is_blank, blanks, cut_end, trim_of, is_odd, odd_at, moved, heading_of, heads, comment_of, word_ends, sides_of, assignment_of, split_of};
 
-use words::{BLOCK, begins_at, byte_at, byte_from};
+use words::{
+    Class, begins_at, blocks_from, byte_at, byte_from, long_run_from, rest_from, run_from,
+};
 
 // A part of a text: from one place up to another.
 #[derive(Clone, Copy, Debug, PartialEq, Eq)]
@@ -43,67 +44,56 @@ pub struct Fields {
     pub spans: [Span; 7],
 }
 
-// A byte outside 32 to 126.
-fn is_odd(b: u8) -> bool
-    ensures { result ≡ is_odd b }
-{
-    if b < 32 {
-        return true;
+// The bytes 32 to 126.
+#[derive(Clone, Copy)]
+struct Plain;
+
+impl Class for Plain {
+    ghost has = { λ _ b. not (is_odd b) };
+
+    fn has(self, byte: u8) -> bool {
+        matches!(byte, 32..=126)
     }
-    126 < b
 }
 
-// None of these bytes is outside 32 to 126; as `words::is_without`, with no way out before the end.
-fn is_plain(block: &[u8]) -> bool
-    ensures { result ≡ every (λ b. not (is_odd b)) block.now }
-{
-    let mut plain = true;
-    let mut i = 0;
-    while i < block.len() {
-        if is_odd(block[i]) {
-            plain = false;
+// The bytes that end no line.
+#[derive(Clone, Copy)]
+struct InLine;
+
+impl Class for InLine {
+    ghost has = { λ _ b. not (is_end b) };
+
+    fn has(self, byte: u8) -> bool {
+        // one comparison tells nearly every byte: `byte != 13 && byte != 10` takes two
+        if byte < 14 {
+            if byte == 13 {
+                return false;
+            }
+            if byte == 10 {
+                return false;
+            }
         }
-        i += 1;
+        true
     }
-    plain
 }
 
-// From `from` on, the start of the first block that has a byte outside 32 to 126, or of what is no whole block.
-fn plain_blocks(text: &[u8], from: usize) -> usize
-    ensures { result ≡ from + blocks_of (odd_at (drop from text.now)) }
-{
-    if text.len() < BLOCK {
-        return from;
+// The blanks.
+#[derive(Clone, Copy)]
+struct Blanks;
+
+impl Class for Blanks {
+    ghost has = { λ _ b. is_blank b };
+
+    fn has(self, byte: u8) -> bool {
+        byte == 32
     }
-    let last = text.len() - BLOCK;
-    let mut at = from;
-    while at <= last {
-        if !is_plain(&text[at..at + BLOCK]) {
-            return at;
-        }
-        at += BLOCK;
-    }
-    at
 }
 
 // The place of the first CR or LF at or after `from`, or the feed's end.
 fn text_end(feed: &[u8], from: usize) -> usize
     ensures { result ≡ from + text_len (drop from feed.now) }
 {
-    let mut end = plain_blocks(feed, from); // no block of bytes 32 to 126 has an ending
-    while end < feed.len() {
-        let b = feed[end];
-        if b < 14 {
-            if b == 13 {
-                return end;
-            }
-            if b == 10 {
-                return end;
-            }
-        }
-        end += 1;
-    }
-    end
+    run_from(feed, blocks_from(feed, from, Plain), InLine) // no block of bytes 32 to 126 has an ending
 }
 
 // How many bytes an ending takes whose first byte is b, with c after it: none where b is neither CR nor LF.
@@ -111,34 +101,23 @@ fn text_end(feed: &[u8], from: usize) -> usize
 fn ends_with(b: u8, c: u8) -> usize
     ensures { result ≡ end_with b c }
 {
-    if b == 13 {
-        if c == 10 {
-            return 2;
-        }
-        return 1;
+    match (b, c) {
+        (13, 10) | (10, 13) => 2,
+        (13 | 10, _) => 1,
+        _ => 0,
     }
-    if b == 10 {
-        if c == 13 {
-            return 2;
-        }
-        return 1;
-    }
-    0
 }
 
 // How many bytes the ending at `at` takes: none where no ending stands there.
+#[tactic(auto, unfolding(crate::specs::Feed::end_len))]
 fn end_len(feed: &[u8], at: usize) -> usize
     ensures { result ≡ end_len (drop at feed.now) }
 {
-    if feed.len() <= at {
-        return 0;
+    match *rest_from(feed, at) {
+        [] => 0,
+        [b] => ends_with(b, 0),
+        [b, c, ..] => ends_with(b, c),
     }
-    let b = feed[at];
-    let next = at + 1;
-    if feed.len() <= next {
-        return ends_with(b, 0);
-    }
-    ends_with(b, feed[next])
 }
 
 // The line that starts at `from`.
@@ -154,28 +133,14 @@ pub fn line_at(feed: &[u8], from: usize) -> Ends
 fn blanks_end(text: &[u8], from: usize) -> usize
     ensures { result ≡ from + blanks (drop from text.now) }
 {
-    let mut at = from;
-    while at < text.len() {
-        if text[at] != 32 {
-            return at;
-        }
-        at += 1;
-    }
-    at
+    run_from(text, from, Blanks)
 }
 
 // Where the text ends without the blanks at its end.
 fn cut_end(text: &[u8]) -> usize
     ensures { result ≡ cut_end text.now }
 {
-    let mut end = text.len();
-    while 0 < end {
-        if text[end - 1] != 32 {
-            return end;
-        }
-        end -= 1;
-    }
-    end // of only blanks nothing is left
+    text.len() - text.iter().rev().take_while(|b| **b == 32).count()
 }
 
 // The text with the blanks at both ends cut.
@@ -191,14 +156,7 @@ pub fn trim(text: &[u8]) -> Span
 pub fn odd_at(text: &[u8]) -> usize
     ensures { result ≡ odd_at text.now }
 {
-    let mut at = plain_blocks(text, 0);
-    while at < text.len() {
-        if is_odd(text[at]) {
-            return at;
-        }
-        at += 1;
-    }
-    at
+    long_run_from(text, 0, Plain)
 }
 
 // A heading line of this word.
@@ -206,11 +164,7 @@ fn heads_with(text: &[u8], word: &[u8]) -> bool
     ensures { result ≡ heads word.now text.now }
 {
     let at = blanks_end(text, 0);
-    if !begins_at(text, at, word) {
-        return false;
-    }
-    let equals = blanks_end(text, at + word.len());
-    begins_at(text, equals, b"=")
+    begins_at(text, at, word) && begins_at(text, blanks_end(text, at + word.len()), b"=")
 }
 
 // The type of message that a heading line opens, where the line is one.
@@ -230,13 +184,11 @@ pub fn heading_of(text: &[u8]) -> Option<Form>
 }
 
 // A blank or the end of the text stands at `at`.
+#[tactic(auto, unfolding(crate::specs::Text::word_ends))]
 fn word_ends(text: &[u8], at: usize) -> bool
     ensures { result ≡ word_ends (drop at text.now) }
 {
-    if text.len() <= at {
-        return true;
-    }
-    text[at] == 32
+    matches!(rest_from(text, at), [] | [32, ..])
 }
 
 // The part of a text from `n` on, trimmed.
@@ -294,10 +246,11 @@ pub fn fields_of(text: &[u8]) -> Fields
     let mut spans = [Span { from: 0, to: 0 }; 7];
     let mut count = 0;
     let mut from = 0;
+    // each turn goes on behind a field, by no fixed step, and `split` would lose the fields' places
     while from < text.len() {
         let to = byte_from(text, from, 32);
         if from < to {
-            if count < 7 {
+            if count < spans.len() {
                 spans[count] = Span { from, to };
                 count += 1;
             } else {

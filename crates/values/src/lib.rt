@@ -2,27 +2,28 @@
 #![tactic(auto)]
 
 ghost use Rattle.std.specs.Prelude.{◌≡◌, ◌+◌, ◌-◌, ◌<◌, ◌≤◌, ◌^◌, leb, length, drop};
+ghost use Rattle.words.specs.Words.{is_digit};
 ghost use Rattle.values.specs.Number.{digits, sign_len, unsigned, is_digits, is_exponent, ends_number, after_whole, is_number, digits_from, integer_top, is_integer, is_text, is_version};
 
-use words::is_word;
+use words::{Class, is_word, run_from};
+
+// The digits.
+#[derive(Clone, Copy)]
+struct Digits;
+
+impl Class for Digits {
+    ghost has = { λ _ b. is_digit b };
+
+    fn has(self, byte: u8) -> bool {
+        byte.is_ascii_digit()
+    }
+}
 
 // The place of the first byte at or after `from` that is no digit, or the text's end.
-#[tactic(auto, using(words::proofs::Laws::walk_stop, words::proofs::Laws::walk_more, words::proofs::Laws::walk_end))]
 fn digits_end(text: &[u8], from: usize) -> usize
     ensures { result ≡ from + digits (drop from text.now) }
 {
-    let mut at = from;
-    while at < text.len() {
-        let b = text[at];
-        if b < 48 {
-            return at;
-        }
-        if 57 < b {
-            return at;
-        }
-        at += 1;
-    }
-    at
+    run_from(text, from, Digits)
 }
 
 // How many digits stand first.
