@@ -47,14 +47,8 @@ fn assigns_code(form: Form, code: u16) -> bool
     ensures { result ≡ assigns form code }
 {
     match form {
-        Form::Opm => match code {
-            1..=35 => true,
-            _ => false,
-        },
-        Form::Oem => match code {
-            2..=8 | 36 | 38..=43 => true,
-            _ => false,
-        },
+        Form::Opm => matches!(code, 1..=35),
+        Form::Oem => matches!(code, 2..=8 | 36 | 38..=43),
     }
 }
 
@@ -91,7 +85,7 @@ pub fn kind_of(code: u16) -> Kind
 pub fn unit_right(code: u16, text: &[u8]) -> bool
     ensures { result ≡ is_unit code text.now }
 {
-    if text.len() == 0 {
+    if text.is_empty() {
         return true;
     }
     match code {
@@ -109,12 +103,7 @@ pub fn unit_right(code: u16, text: &[u8]) -> bool
 fn only_code(code: u16) -> Next
     ensures { result ≡ only code }
 {
-    Next {
-        low: code,
-        high: code,
-        also: 0,
-        end: false,
-    }
+    one_of(code, code)
 }
 
 fn one_of(low: u16, high: u16) -> Next
@@ -134,18 +123,14 @@ fn opm_next(last: u16) -> Next
 {
     match last {
         15 => Next {
-            low: 16,
-            high: 16,
             also: 24,
-            end: false,
+            ..only_code(16)
         },
         20 => one_of(21, 22),
         21 => only_code(23),
         28 | 35 => Next {
-            low: 29,
-            high: 29,
-            also: 0,
             end: true,
+            ..only_code(29)
         },
         0..=34 => only_code(last + 1),
         _ => only_code(0),
@@ -166,25 +151,20 @@ fn oem_next(last: u16) -> Next
         8 => only_code(38),
         38..=40 => one_of(last + 1, 41),
         41 => Next {
-            low: 42,
-            high: 42,
             also: 44,
-            end: false,
+            ..only_code(42)
         },
         42 => only_code(43),
         43 => only_code(44),
         44 => only_code(9),
         9 => Next {
-            low: 9,
-            high: 9,
             also: 37,
             end: true,
+            ..only_code(9)
         },
         45 => Next {
-            low: 37,
-            high: 37,
-            also: 0,
             end: true,
+            ..only_code(37)
         },
         _ => only_code(0),
     }
@@ -206,14 +186,5 @@ pub fn next_of(form: Form, last: u16) -> Next
 pub fn allows_code(next: Next, code: u16) -> bool
     ensures { result ≡ allows next code }
 {
-    if code < 1 {
-        return false;
-    }
-    if code == next.also {
-        return true;
-    }
-    if code < next.low {
-        return false;
-    }
-    code <= next.high
+    code >= 1 && (code == next.also || (next.low..=next.high).contains(&code))
 }
