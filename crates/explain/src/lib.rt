@@ -11,7 +11,7 @@ ghost use Rattle.explain.specs.Explain.{plainly, blamed, ended, explain_from, ex
 
 use grammar::{Form, Next};
 use judge::{FEED_LIMIT, Found, Judged, Met, find_message, next_line};
-use reasons::{Reason, reason_number};
+use reasons::Reason;
 use step::State;
 
 // At most four codes, in the array's first places; the others are 0.
@@ -36,14 +36,8 @@ fn can_begin(form: Form, code: u16) -> bool
     ensures { result ≡ can_begin form code }
 {
     match form {
-        Form::Opm => match code {
-            2..=35 => true,
-            _ => false,
-        },
-        Form::Oem => match code {
-            2..=9 | 37..=44 => true,
-            _ => false,
-        },
+        Form::Opm => matches!(code, 2..=35),
+        Form::Oem => matches!(code, 2..=9 | 37..=44),
     }
 }
 
@@ -58,47 +52,33 @@ fn no_codes() -> Codes
 }
 
 // One code more, while there is room.
+#[tactic(auto, unfolding(crate::specs::Codes::code_more))]
 fn code_more(x: Codes, code: u16) -> Codes
     ensures { result ≡ code_more x code }
 {
-    let n = x.count;
     let mut codes = x.codes;
-    if n < 4 {
-        codes[n as usize] = code as u32;
+    if x.count < 4 {
+        codes[x.count as usize] = code as u32;
         return Codes {
-            count: n + 1,
+            count: x.count + 1,
             codes,
         };
     }
     x
 }
 
-// A code more, if a line of it can begin and may stand here.
-fn code_if(x: Codes, form: Form, next: Next, code: u16) -> Codes
-    ensures { result ≡ elim (can_begin form code && allows next code) [ true ↦ code_more x code | false ↦ x ] }
-{
-    if !can_begin(form, code) {
-        return x;
-    }
-    if !grammar::allows_code(next, code) {
-        return x;
-    }
-    code_more(x, code)
-}
-
 // The codes that could stand here, in their order.
 fn codes_of(state: State) -> Codes
     ensures { result ≡ codes_of state }
 {
-    let form = state.form;
-    let next = grammar::next_of(form, state.last);
-    let mut x = no_codes();
-    let mut code: u16 = 1;
-    while code < 46 {
-        x = code_if(x, form, next, code);
-        code += 1;
+    let next = grammar::next_of(state.form, state.last);
+    let mut codes = no_codes();
+    for code in 1..46 {
+        if can_begin(state.form, code) && grammar::allows_code(next, code) {
+            codes = code_more(codes, code);
+        }
     }
-    x
+    codes
 }
 
 // The codes beside a reason of a line: for ORDER alone.
@@ -106,10 +86,10 @@ fn codes_of(state: State) -> Codes
 fn codes_for(state: State, reason: Reason) -> Codes
     ensures { result ≡ codes_for state reason }
 {
-    if reason_number(reason) == 7 {
-        return codes_of(state);
+    match reason {
+        Reason::Order => codes_of(state),
+        _ => no_codes(),
     }
-    no_codes()
 }
 
 // A judgement with nothing to explain.
@@ -143,8 +123,7 @@ fn explain_end(state: State, at: usize, line: u32, rows: u32) -> Explained
     requires { at ≤ feed_limit }
     ensures { result ≡ ended state at line rows }
 {
-    let form = state.form;
-    if grammar::next_of(form, state.last).end {
+    if grammar::next_of(state.form, state.last).end {
         return plain_answer(Judged::Accepted(rows));
     }
     Explained {

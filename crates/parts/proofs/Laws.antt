@@ -3,12 +3,13 @@
 use mathlib.Core.Path.{◌≡◌, refl, sym, ap, ◌∙◌}
 use mathlib.Core.List.{List, [], ◌∷◌}
 use mathlib.Core.Bool.{Bool, true, false, not}
-use Prim.Native.Nat.{ℕ, suc, ◌+◌, ◌≤◌, ◌<◌}
+use Prim.Native.Nat.{ℕ, suc, min, ◌+◌, ◌≤◌, ◌<◌}
 use native.Mathlib.Numerals.{add-one}
 use native.Mathlib.Omega.{arith}
 use lib.Dec.{eqb}
-use lib.ListN.{length, get_or, drop, length-take, length-drop, drop_of_length-le}
+use lib.ListN.{length, get_or, take, drop, length-take, length-drop, drop_of_length-le}
 use lib.Seq.{drop-cons}
+use Rattle.std.proofs.Math.Nat.{min_comm}
 use Rattle.words.proofs.Laws.{run-le}
 use Rattle.reasons.specs.Reasons.{reason_no}
 use Rattle.reasons.specs.declared.Reason.{Reason}
@@ -31,6 +32,14 @@ use Rattle.step.specs.declared.State.{State}
 use Rattle.step.specs.Step.{part, word_len, Inside}
 use Rattle.step.proofs.Laws.{part_length, word-le, trim_inside, sides_inside, fields_inside}
 use Rattle.parts.specs.Parts.{past_long, first_odd, sides_in, keyword_part, value_in, kind_in, first_wrong, data_part, value_part, unit_part, offences, offending}
+
+-- ---- a text's ends
+
+pub long_from : (s : List ℕ) → min (length s) 254 ≡ length (take 254 s)
+long_from s = rw (length-take 254 s) (min_comm (length s) 254)
+
+pub odd_within : (s : List ℕ) → odd_at s ≤ length s
+odd_within s = run-le (λ b. not (is_odd b)) s
 
 -- ---- parts lie in the text
 
@@ -88,12 +97,7 @@ module _ (st : State) (s : List ℕ) (f : Fields) (e : EpochRead) (hf : f ≡ sp
   unfolding data_part
   data_later h = rw (← hf, data_part) (rw (sym he ∙ h, data_part) (rw (← hf)))
 
--- ---- the part that offends, by the reason's number: the i-th row's
-
-pub offends : (st : State) (s : List ℕ) (r : Reason) (n i : ℕ) → n ≡ reason_no r → First (offences st s) i n
-    → row (offences st s) (trim_of s) i n ≡ offending st s r
-unfolding offending
-offends st s r n i e h = picks (offences st s) (trim_of s) i n h ∙ ap (pick (offences st s) (trim_of s)) e
+-- ---- the part that offends
 
 -- each of the parts lies in the text, and so does the one that offends
 module _ (s : List ℕ) where
