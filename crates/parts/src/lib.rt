@@ -97,22 +97,12 @@ fn kind_in(form: Form, x: Sides, text: &[u8]) -> Kind
 }
 
 // The first of a data line's fields but the epoch that is no number, or the epoch.
-#[tactic(auto, using(crate::proofs::Laws::wrong_none, crate::proofs::Laws::wrong_later, crate::proofs::Laws::wrong_here))]
+#[tactic(auto, using(crate::proofs::Laws::rest_wrong))]
 fn first_wrong(spans: [Span; 7], text: &[u8]) -> Span
     requires { SevenInside spans text.now }
     ensures { result ≡ first_wrong (get_or spans 0 no_span) (drop 1 spans) text.now }
 {
-    let mut i = 1;
-    while i < 7 {
-        let p = spans[i];
-        let from = p.from;
-        let to = p.to;
-        if !values::is_number(&text[from..to]) {
-            return p;
-        }
-        i += 1;
-    }
-    spans[0]
+    step::no_number(&spans[1..], text).unwrap_or(spans[0])
 }
 
 // The one field of a data line.

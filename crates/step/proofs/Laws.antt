@@ -2,7 +2,10 @@
 -- Assumes nothing.
 use mathlib.Core.Path.{◌≡◌, refl, ap, sym, ◌∙◌}
 use mathlib.Core.List.{List, [], ◌∷◌}
-use mathlib.Core.Bool.{Bool, true, false, not}
+use mathlib.Core.Bool.{Bool, true, false, not, ◌&&◌, cond}
+use Rattle.std.proofs.Common.{All as EachOf, find, is_none, Some}
+use Rattle.std.proofs.lemmas.List.{take_all, get_or_default}
+use Rattle.std.proofs.lemmas.Grind.{get_or_after_one}
 use Prim.Native.Nat.{ℕ, zero, suc, ◌+◌, ◌-◌, ◌≤◌, ◌<◌}
 use native.Mathlib.Numerals.{add-one}
 use native.Mathlib.Omega.{arith}
@@ -32,20 +35,31 @@ use Rattle.step.specs.declared.Verdict.TheVariants.{Right}
 use Rattle.reasons.specs.declared.Reason.{Reason}
 use Rattle.reasons.specs.declared.Reason.TheVariants as Reasons
 
--- ---- fields that are numbers, seen from a place in the list of spans
+-- ---- fields that are numbers
 
-module _ (ps : List Span) (s : List ℕ) (i : ℕ) where
-  pub numbers_end : length ps ≤ i → are_numbers (drop i ps) s ≡ true
-  unfolding are_numbers
-  numbers_end h = rw (drop_of_length-le ps h)
+numbers_none : (ps : List Span) (s : List ℕ) → is_none (find (λ p. not (is_number (part p s))) ps) ≡ are_numbers ps s
+unfolding are_numbers
+numbers_none [] s = refl
+numbers_none (p ∷ ps) s = go (is_number (part p s)) (numbers_none ps s)
+  where
+    go : (t : Bool) → is_none (find (λ q. not (is_number (part q s))) ps) ≡ are_numbers ps s
+        → is_none (cond (not t) (Some p) (find (λ q. not (is_number (part q s))) ps)) ≡ t && are_numbers ps s
+    go true e = e
+    go false e = refl
 
-  pub numbers_more : i < length ps → is_number (part (get_or ps i no_span) s) ≡ true → are_numbers (drop i ps) s ≡ are_numbers (drop (i + 1) ps) s
-  unfolding are_numbers
-  numbers_more h e = rw (add-one i, drop-cons ps i no_span h, e)
+-- the fields behind the first, as the code has them
+module _ (ps : List Span) (s : List ℕ) (h : SevenInside ps s) where
+  pub rest_whole : take 6 (drop 1 ps) ≡ drop 1 ps
+  rest_whole = take_all 6 (drop 1 ps) (omega (arith, h.size, length-drop 1 ps))
 
-  pub numbers_stop : i < length ps → is_number (part (get_or ps i no_span) s) ≡ false → are_numbers (drop i ps) s ≡ false
-  unfolding are_numbers
-  numbers_stop h e = rw (drop-cons ps i no_span h, e)
+  pub rest_inside : EachOf (λ p. Inside p s) (take 6 (drop 1 ps))
+  rest_inside k d e =
+      let q : get_or (take 6 (drop 1 ps)) k d ≡ get_or ps (1 + k) no_span =
+      get_or_default (take 6 (drop 1 ps)) k d no_span e ∙ ap (λ (xs : List Span). get_or xs k no_span) rest_whole ∙ get_or_after_one ps k no_span in
+      rw q (h.inside (1 + k))
+
+  pub rest_none : is_none (find (λ p. not (is_number (part p s))) (take 6 (drop 1 ps))) ≡ are_numbers (drop 1 ps) s
+  rest_none = rw rest_whole (numbers_none (drop 1 ps) s)
 
 -- ---- what goes by the message type
 
