@@ -119,6 +119,7 @@ fn blame(state: State, at: usize, line: u32, text: &[u8], reason: Reason) -> Exp
 }
 
 // At the end of a message: the rows, or SHORT with nothing there.
+#[tactic(auto, unfolding(crate::specs::Explain::ended))]
 fn explain_end(state: State, at: usize, line: u32, rows: u32) -> Explained
     requires { at ≤ feed_limit }
     ensures { result ≡ ended state at line rows }

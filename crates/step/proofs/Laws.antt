@@ -1,16 +1,14 @@
 -- Laws of the definitions on a line judged.
 -- Assumes nothing.
-use mathlib.Core.Path.{◌≡◌, refl, ap, sym, ◌∙◌}
+use mathlib.Core.Path.{◌≡◌, refl, ap, ◌∙◌}
 use mathlib.Core.List.{List, [], ◌∷◌}
 use mathlib.Core.Bool.{Bool, true, false, not, ◌&&◌, cond}
 use Rattle.std.proofs.Common.{All as EachOf, find, is_none, Some}
 use Rattle.std.proofs.lemmas.List.{take_all, get_or_default}
 use Rattle.std.proofs.lemmas.Grind.{get_or_after_one}
 use Prim.Native.Nat.{ℕ, zero, suc, ◌+◌, ◌-◌, ◌≤◌, ◌<◌}
-use native.Mathlib.Numerals.{add-one}
 use native.Mathlib.Omega.{arith}
-use lib.ListN.{length, get_or, set, take, drop, replicate, length-set, length-take, length-drop, drop_of_length-le}
-use lib.Seq.{drop-cons}
+use lib.ListN.{length, get_or, set, take, drop, replicate, length-set, length-take, length-drop}
 use Rattle.lines.specs.Text.{no_span}
 use Rattle.lines.specs.declared.Assignment.TheVariants as Assigns
 use Rattle.lines.specs.declared.Span.{Span}
@@ -22,13 +20,10 @@ use Rattle.lines.specs.declared.Sides.{Sides}
 use Rattle.lines.specs.declared.Fields.{Fields}
 use borrow.Author.Tests.{ltb-true}
 use Rattle.lines.proofs.Laws.{trim_within}
-use Rattle.epochs.specs.Epoch.{epoch_of}
-use Rattle.epochs.specs.declared.Epoch.{Epoch}
-use Rattle.epochs.specs.declared.Instant.{Instant}
 use Rattle.grammar.specs.Keywords.{is_unit}
 use Rattle.grammar.specs.declared.Form.{Form}
 use Rattle.grammar.specs.declared.Form.TheVariants.{Opm, Oem}
-use Rattle.step.specs.Step.{part, Inside, SevenInside, are_numbers, is_timely, word_len, number_of, no_row, one_row, seven_rows, past, past_data, past_comment, wrong, fields_of, data_at, data_of, filled_of, step_of}
+use Rattle.step.specs.Step.{part, Inside, SevenInside, are_numbers, word_len, number_of, no_row, one_row, past, wrong, fields_of, data_of, filled_of, step_of}
 use Rattle.step.specs.declared.State.{State}
 use Rattle.step.specs.declared.Step.{Step}
 use Rattle.step.specs.declared.Verdict.TheVariants.{Right}
@@ -63,11 +58,6 @@ module _ (ps : List Span) (s : List ℕ) (h : SevenInside ps s) where
 
 -- ---- what goes by the message type
 
-pub comment_in : (st : State) (f : Form) → st.form ≡ f
-    → past_comment st ≡ elim f [ Opm ↦ st | Oem ↦ elim (eqb st.last 9) [ true ↦ past st 45 | false ↦ st ] ]
-unfolding past_comment
-comment_in st f e = ap (λ (g : Form). elim g [ Opm ↦ st | Oem ↦ elim (eqb st.last 9) [ true ↦ past st 45 | false ↦ st ] ]) e
-
 pub fields_in_lem : (st : State) (s : List ℕ) (f : Form) → st.form ≡ f
     → fields_of st s
     ≡ elim f [
@@ -96,18 +86,11 @@ module _ (st : State) (r : Reason) {x y : Step} where
   spared false p e = p
 
 module _ (st : State) (s : List ℕ) where
-  pub data_right : (f : Fields) (t : Instant) → (data_at st f t s).verdict ≡ Right → data_at st f t s ≡ seven_rows (past_data st t) f.spans
-  unfolding data_at
-  data_right f t e = kept st _ (is_timely st t) (kept st _ (are_numbers (drop 1 f.spans) s) refl e) e
-
   pub step_right : (step_of st s).verdict ≡ Right → step_of st s ≡ elim (eqb (trim_of s).to 0) [ true ↦ no_row st | false ↦ filled_of st (trim_of s) s ]
   unfolding step_of
   step_right e = spared st _ (ltb (odd_at s) (length s)) (spared st _ (is_long s) refl e) e
 
 -- ---- an epoch read by one who found out whether second 60 may stand
-
-pub epoch_read : (v : List ℕ) (asked may : Bool) (e : Epoch) → e ≡ epoch_of v asked → asked ≡ may → epoch_of v may ≡ e
-epoch_read v asked may e h k = sym (h ∙ ap (epoch_of v) k)
 
 -- ---- parts of a text
 
