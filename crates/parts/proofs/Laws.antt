@@ -3,12 +3,10 @@
 use mathlib.Core.Path.{◌≡◌, refl, sym, ap, ◌∙◌}
 use mathlib.Core.List.{List, [], ◌∷◌}
 use mathlib.Core.Bool.{Bool, true, false, not}
-use Prim.Native.Nat.{ℕ, suc, min, ◌+◌, ◌≤◌, ◌<◌}
-use native.Mathlib.Numerals.{add-one}
+use Prim.Native.Nat.{ℕ, suc, min, ◌+◌, ◌≤◌}
 use native.Mathlib.Omega.{arith}
 use lib.Dec.{eqb}
-use lib.ListN.{length, get_or, take, drop, length-take, length-drop, drop_of_length-le}
-use lib.Seq.{drop-cons}
+use lib.ListN.{length, get_or, take, drop, length-take, length-drop}
 use Rattle.std.proofs.Math.Nat.{min_comm}
 use Rattle.words.proofs.Laws.{run-le}
 use Rattle.reasons.specs.Reasons.{reason_no}
@@ -27,7 +25,6 @@ use Rattle.epochs.specs.declared.Epoch.TheVariants.{At, Bad}
 use Rattle.grammar.specs.Rows.{between, Row, pick}
 use Rattle.grammar.specs.declared.Kind.{Kind}
 use Rattle.grammar.specs.declared.Kind.TheVariants.{Version, Text, Integer, Number, Epoch, Nothing}
-use Rattle.grammar.proofs.Laws.{First, row, picks}
 use Rattle.step.specs.declared.State.{State}
 use Rattle.std.proofs.Common.{find, unwrap_or, Some, cond}
 use Rattle.step.specs.Step.{part, word_len, Inside, SevenInside}
