@@ -35,14 +35,8 @@ fn can_begin(form: Form, code: u16) -> bool
     ensures { result ≡ can_begin form code }
 {
     match form {
-        Form::Opm => match code {
-            2..=35 => true,
-            _ => false,
-        },
-        Form::Oem => match code {
-            2..=9 | 37..=44 => true,
-            _ => false,
-        },
+        Form::Opm => matches!(code, 2..=35),
+        Form::Oem => matches!(code, 2..=9 | 37..=44),
     }
 }
 
@@ -57,47 +51,33 @@ fn no_codes() -> Codes
 }
 
 // One code more, while there is room.
+#[tactic(auto, unfolding(crate::specs::Codes::code_more))]
 fn code_more(x: Codes, code: u16) -> Codes
     ensures { result ≡ code_more x code }
 {
-    let n = x.count;
     let mut codes = x.codes;
-    if n < 4 {
-        codes[n as usize] = code as u32;
+    if x.count < 4 {
+        codes[x.count as usize] = code as u32;
         return Codes {
-            count: n + 1,
+            count: x.count + 1,
             codes,
         };
     }
     x
 }
 
-// A code more, if a line of it can begin and may stand here.
-fn code_if(x: Codes, form: Form, next: Next, code: u16) -> Codes
-    ensures { result ≡ elim (can_begin form code && allows next code) [ true ↦ code_more x code | false ↦ x ] }
-{
-    if !can_begin(form, code) {
-        return x;
-    }
-    if !grammar::allows_code(next, code) {
-        return x;
-    }
-    code_more(x, code)
-}
-
 // The codes that could stand here, in their order.
 fn codes_of(state: State) -> Codes
     ensures { result ≡ codes_of state }
 {
-    let form = state.form;
-    let next = grammar::next_of(form, state.last);
-    let mut x = no_codes();
-    let mut code: u16 = 1;
-    while code < 46 {
-        x = code_if(x, form, next, code);
-        code += 1;
+    let next = grammar::next_of(state.form, state.last);
+    let mut codes = no_codes();
+    for code in 1..46 {
+        if can_begin(state.form, code) && grammar::allows_code(next, code) {
+            codes = code_more(codes, code);
+        }
     }
-    x
+    codes
 }
 
 // The codes beside a reason of a line: for ORDER alone.
@@ -108,7 +88,6 @@ fn codes_for(state: State, reason: Reason) -> Codes
     if reason == Reason::Order {
         return codes_of(state);
     }
-    no_codes()
 }
 
 // A judgement with nothing to explain.
@@ -139,6 +118,7 @@ fn blame(stop: Stop, text: &[u8], reason: Reason) -> Explained
 }
 
 // At the end of a message: the rows, or SHORT with nothing there.
+#[tactic(auto, unfolding(crate::specs::Explain::ended))]
 fn explain_end(stop: Stop) -> Explained
     requires { stop.at ≤ feed_limit }
     ensures { result ≡ ended stop.state stop.at stop.line stop.rows }

@@ -1,17 +1,13 @@
--- Laws of the tables on codes, of the facts that a match leaves on a code, of units, and of what comes next.
+-- Laws of the tables on codes, and of what comes next.
 -- Assumes nothing.
 use mathlib.Core.Path.{◌≡◌, refl, sym, ◌∙◌}
-use mathlib.Core.Logic.{◌⊎◌, inl, inr}
 use mathlib.Core.Bool.{Bool, true, false, not, ◌&&◌, ◌||◌, and-eq-true_iff, false≢true}
 use mathlib.Core.List.{List, [], ◌∷◌}
 use Prim.Native.Nat.{ℕ, zero, suc, zero-le, ◌≤◌, ◌<◌}
 use native.Mathlib.Omega.{arith}
 use lib.Dec.{eqb, leb}
-use lib.ListN.{length}
 use borrow.Author.Tests.{le-leb, lt-leb, leb-true, leb-false, ne_eqb}
-use Rattle.words.specs.Words.{is_word}
 use Rattle.grammar.specs.Rows.{between, Row, pick}
-use Rattle.grammar.specs.Keywords.{unit_of, is_unit}
 use Rattle.grammar.specs.Order.{only, opm_order, oem_order, next_of, allows}
 use Rattle.grammar.specs.declared.Next.{Next}
 use Rattle.lines.specs.declared.Form.{Form}
@@ -41,27 +37,6 @@ unfolding pick
 picks [] d i n s = refl
 picks (r ∷ rs) d zero n s = rw (le-leb _ _ s.0, le-leb _ _ s.1, pick)
 picks (r ∷ rs) d (suc i) n s = rw (not_in r.low r.high n _ _ refl refl s.0, pick) (picks rs d i n s.1)
-
--- ---- what a match leaves on a code
-
--- an arm with two codes was not taken; `omega` reads no sum
-pub neither : {x a b : ℕ} → ((x ≡ a) ⊎ (x ≡ b) → ⊥) → (x ≡ a → ⊥) × (x ≡ b → ⊥)
-neither f = (λ e. f (inl e), λ e. f (inr e))
-
--- an arm with the lowest code was not taken; `omega` gives up where more than six arms were not
-pub past : {l n : ℕ} → l ≤ n → (n ≡ l → ⊥) → suc l ≤ n
-past h e = omega arith
-
--- ---- what stands after a number, where something does
-
-module _ (n : ℕ) (s : List ℕ) (h : length s ≡ 0 → ⊥) where
-  pub unit_is : (w : List ℕ) → w ≡ unit_of n → is_word w s ≡ is_unit n s
-  unfolding is_unit
-  unit_is w e = rw (e, ne_eqb (length s) 0 h, is_unit)
-
-  pub unit_none : [] ≡ unit_of n → false ≡ is_unit n s
-  unfolding is_word
-  unit_none e = rw (← unit_is [] e, ne_eqb (length s) 0 h, is_word)
 
 -- ---- what comes next, at every code
 

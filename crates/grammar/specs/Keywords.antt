@@ -19,7 +19,7 @@ assigns f n = pick (assigned f) false n
 
 -- "KEYWORD: not an assignment keyword of this message type."
 unfoldable pub keyword_of : Form → List ℕ → Option ℕ
-keyword_of f s = let n = code_in keywords s in elim (assigns f n) [ true ↦ Some n | false ↦ None ]
+keyword_of f s = elim (code_in keywords s) [ Some n ↦ elim (assigns f n) [ true ↦ Some n | false ↦ None ] | None ↦ None ]
 
 -- "Heading value", "Text (3 to 8, 32, 42)", "Integer (43)", "Epoch (2, 9, 29, 38-41)", "Number (the rest, save epochs)"
 abbrev pub kinds : List (Row (Option Kind))

@@ -33,14 +33,8 @@ fn assigns_code(form: Form, code: u16) -> bool
     ensures { result ≡ assigns form code }
 {
     match form {
-        Form::Opm => match code {
-            1..=35 => true,
-            _ => false,
-        },
-        Form::Oem => match code {
-            2..=8 | 36 | 38..=43 => true,
-            _ => false,
-        },
+        Form::Opm => matches!(code, 1..=35),
+        Form::Oem => matches!(code, 2..=8 | 36 | 38..=43),
     }
 }
 
@@ -49,12 +43,7 @@ fn assigns_code(form: Form, code: u16) -> bool
 pub fn keyword_of(form: Form, text: &[u8]) -> Option<u16>
     ensures { result ≡ keyword_of form text.now }
 {
-    let code = keywords::code_of(text);
-    if assigns_code(form, code) {
-        Some(code)
-    } else {
-        None
-    }
+    keywords::code_of(text).filter(|&code| assigns_code(form, code))
 }
 
 // What kind of value a code has; META lines, comments and what is no code assign nothing.
@@ -77,7 +66,7 @@ pub fn kind_of(code: u16) -> Option<Kind>
 pub fn unit_right(code: u16, text: &[u8]) -> bool
     ensures { result ≡ is_unit code text.now }
 {
-    if text.len() == 0 {
+    if text.is_empty() {
         return true;
     }
     match code {
@@ -95,12 +84,7 @@ pub fn unit_right(code: u16, text: &[u8]) -> bool
 fn only_code(code: u16) -> Next
     ensures { result ≡ only code }
 {
-    Next {
-        low: code,
-        high: code,
-        also: None,
-        end: false,
-    }
+    one_of(code, code)
 }
 
 fn one_of(low: u16, high: u16) -> Next
@@ -120,18 +104,14 @@ fn opm_next(last: u16) -> Next
 {
     match last {
         15 => Next {
-            low: 16,
-            high: 16,
             also: Some(24),
-            end: false,
+            ..only_code(16)
         },
         20 => one_of(21, 22),
         21 => only_code(23),
         28 | 35 => Next {
-            low: 29,
-            high: 29,
-            also: None,
             end: true,
+            ..only_code(29)
         },
         0..=34 => only_code(last + 1),
         _ => only_code(0),
@@ -152,25 +132,20 @@ fn oem_next(last: u16) -> Next
         8 => only_code(38),
         38..=40 => one_of(last + 1, 41),
         41 => Next {
-            low: 42,
-            high: 42,
             also: Some(44),
-            end: false,
+            ..only_code(42)
         },
         42 => only_code(43),
         43 => only_code(44),
         44 => only_code(9),
         9 => Next {
-            low: 9,
-            high: 9,
             also: Some(37),
             end: true,
+            ..only_code(9)
         },
         45 => Next {
-            low: 37,
-            high: 37,
-            also: None,
             end: true,
+            ..only_code(37)
         },
         _ => only_code(0),
     }
@@ -192,14 +167,5 @@ pub fn next_of(form: Form, last: u16) -> Next
 pub fn allows_code(next: Next, code: u16) -> bool
     ensures { result ≡ allows next code }
 {
-    if code < 1 {
-        return false;
-    }
-    if next.also == Some(code) {
-        return true;
-    }
-    if code < next.low {
-        return false;
-    }
-    code <= next.high
+    code >= 1 && (next.also == Some(code) || (next.low..=next.high).contains(&code))
 }

@@ -3,12 +3,11 @@
 use mathlib.Core.Path.{◌≡◌, refl, sym, ap, ◌∙◌}
 use mathlib.Core.List.{List, [], ◌∷◌}
 use mathlib.Core.Bool.{Bool, true, false, not}
-use Prim.Native.Nat.{ℕ, suc, ◌+◌, ◌≤◌, ◌<◌}
-use native.Mathlib.Numerals.{add-one}
+use Prim.Native.Nat.{ℕ, suc, min, ◌+◌, ◌≤◌}
 use native.Mathlib.Omega.{arith}
 use lib.Dec.{eqb}
-use lib.ListN.{length, get_or, drop, length-take, length-drop, drop_of_length-le}
-use lib.Seq.{drop-cons}
+use lib.ListN.{length, get_or, take, drop, length-take, length-drop}
+use Rattle.std.proofs.Math.Nat.{min_comm}
 use Rattle.words.proofs.Laws.{run-le}
 use Rattle.reasons.specs.Reasons.{reason_no}
 use Rattle.reasons.specs.declared.Reason.{Reason}
@@ -22,12 +21,20 @@ use Rattle.epochs.specs.declared.Instant.{Instant}
 use Rattle.grammar.specs.Rows.{between, Row, pick}
 use Rattle.grammar.specs.declared.Kind.{Kind}
 use Rattle.grammar.specs.declared.Kind.TheVariants.{Version, Text, Integer, Number, Epoch}
-use Rattle.grammar.proofs.Laws.{First, row, picks}
 use Rattle.step.specs.declared.State.{State}
-use Rattle.step.specs.Step.{part, word_len, Inside}
-use Rattle.step.proofs.Laws.{part_length, word-le, trim_inside, sides_inside, fields_inside}
+use Rattle.std.proofs.Common.{find, unwrap_or, Some, cond}
+use Rattle.step.specs.Step.{part, word_len, Inside, SevenInside}
+use Rattle.step.proofs.Laws.{part_length, word-le, trim_inside, sides_inside, fields_inside, rest_whole}
 use Rattle.parts.specs.Parts.{past_long, first_odd, sides_in, keyword_part, value_in, kind_in, first_wrong, data_part, value_part, unit_part, offences, offending}
 use Rattle.std.specs.Prelude.{Option, Some, None}
+
+-- ---- a text's ends
+
+pub long_from : (s : List ℕ) → min (length s) 254 ≡ length (take 254 s)
+long_from s = rw (length-take 254 s) (min_comm (length s) 254)
+
+pub odd_within : (s : List ℕ) → odd_at s ≤ length s
+odd_within s = run-le (λ b. not (is_odd b)) s
 
 -- ---- parts lie in the text
 
@@ -59,20 +66,21 @@ module _ (s : List ℕ) (x : Sides) (n : ℕ) (r : List ℕ) (u : Span) (hx : x 
       let w = (sides_within s x hx).1 in
       omega (arith, w.order, w.end, (trim_inside r u hu).end, ap length hr, length-drop n (part x.value s), part_length x.value s w, number_within x.value s w)
 
--- ---- the first field that is no number, seen from a place in the list of fields
+-- ---- the first field that is no number
 
-module _ (d : Span) (ps : List Span) (s : List ℕ) (i : ℕ) where
-  pub wrong_none : length ps ≤ i → first_wrong d (drop i ps) s ≡ d
-  unfolding first_wrong
-  wrong_none h = rw (drop_of_length-le ps h)
+wrong_found : (d : Span) (ps : List Span) (s : List ℕ) → unwrap_or (find (λ p. not (is_number (part p s))) ps) d ≡ first_wrong d ps s
+unfolding first_wrong
+wrong_found d [] s = refl
+wrong_found d (p ∷ ps) s = go (is_number (part p s)) (wrong_found d ps s)
+  where
+    go : (t : Bool) → unwrap_or (find (λ q. not (is_number (part q s))) ps) d ≡ first_wrong d ps s
+        → unwrap_or (cond (not t) (Some p) (find (λ q. not (is_number (part q s))) ps)) d ≡ elim t [ true ↦ first_wrong d ps s | false ↦ p ]
+    go true e = e
+    go false e = refl
 
-  pub wrong_later : i < length ps → is_number (part (get_or ps i no_span) s) ≡ true → first_wrong d (drop i ps) s ≡ first_wrong d (drop (i + 1) ps) s
-  unfolding first_wrong
-  wrong_later h e = rw (add-one i, drop-cons ps i no_span h) (rw (e, first_wrong))
-
-  pub wrong_here : i < length ps → is_number (part (get_or ps i no_span) s) ≡ false → first_wrong d (drop i ps) s ≡ get_or ps i no_span
-  unfolding first_wrong
-  wrong_here h e = rw (drop-cons ps i no_span h) (rw (e, first_wrong))
+pub rest_wrong : (d : Span) (ps : List Span) (s : List ℕ) → SevenInside ps s
+    → unwrap_or (find (λ p. not (is_number (part p s))) (take 6 (drop 1 ps))) d ≡ first_wrong d (drop 1 ps) s
+rest_wrong d ps s h = rw (rest_whole ps s h) (wrong_found d (drop 1 ps) s)
 
 -- ---- the one field of a data line, its epoch read
 
@@ -85,12 +93,7 @@ module _ (st : State) (s : List ℕ) (f : Fields) (e : Option Instant) (hf : f �
   unfolding data_part
   data_later h = rw (← hf, data_part) (rw (sym he ∙ h, data_part) (rw (← hf)))
 
--- ---- the part that offends, by the reason's number: the i-th row's
-
-pub offends : (st : State) (s : List ℕ) (r : Reason) (n i : ℕ) → n ≡ reason_no r → First (offences st s) i n
-    → row (offences st s) (trim_of s) i n ≡ offending st s r
-unfolding offending
-offends st s r n i e h = picks (offences st s) (trim_of s) i n h ∙ ap (pick (offences st s) (trim_of s)) e
+-- ---- the part that offends
 
 -- each of the parts lies in the text, and so does the one that offends
 module _ (s : List ℕ) where

@@ -14,25 +14,25 @@ use step::State;
 use words::byte_at;
 
 // The text past 254 bytes.
+#[tactic(auto, using(crate::proofs::Laws::long_from))]
 fn past_long(text: &[u8]) -> Span
     ensures { result ≡ past_long text.now }
 {
     let to = text.len();
-    if to < 254 {
-        return Span { from: to, to };
+    Span {
+        from: to.min(254),
+        to,
     }
-    Span { from: 254, to }
 }
 
 // The first byte that is no plain text.
+#[tactic(auto, using(crate::proofs::Laws::odd_within))]
 fn first_odd(text: &[u8]) -> Span
     ensures { result ≡ first_odd text.now }
 {
     let from = lines::odd_at(text);
-    if from < text.len() {
-        return Span { from, to: from + 1 };
-    }
-    Span { from, to: from }
+    let to = text.len().min(from + 1);
+    Span { from, to }
 }
 
 // An assignment's sides, both empty where the line is none.
@@ -84,22 +84,12 @@ fn kind_in(form: Form, x: Sides, text: &[u8]) -> Option<Kind>
 }
 
 // The first of a data line's fields but the epoch that is no number, or the epoch.
-#[tactic(auto, using(crate::proofs::Laws::wrong_none, crate::proofs::Laws::wrong_later, crate::proofs::Laws::wrong_here))]
+#[tactic(auto, using(crate::proofs::Laws::rest_wrong))]
 fn first_wrong(spans: [Span; 7], text: &[u8]) -> Span
     requires { SevenInside spans text.now }
     ensures { result ≡ first_wrong (get_or spans 0 no_span) (drop 1 spans) text.now }
 {
-    let mut i = 1;
-    while i < 7 {
-        let p = spans[i];
-        let from = p.from;
-        let to = p.to;
-        if !values::is_number(&text[from..to]) {
-            return p;
-        }
-        i += 1;
-    }
-    spans[0]
+    step::no_number(&spans[1..], text).unwrap_or(spans[0])
 }
 
 // The one field of a data line.
@@ -143,16 +133,16 @@ fn unit_part(text: &[u8]) -> Span
 }
 
 // The bytes that offend in a line, by the reason.
+#[tactic(auto, unfolding(crate::specs::Parts::offending, grammar::specs::Rows::pick))]
 pub fn offending_part(state: State, text: &[u8], reason: Reason) -> Span
     ensures { result ≡ offending state text.now reason }
 {
-    match u32::from(reason) {
-        3 => past_long(text),
-        4 => first_odd(text),
-        6 => keyword_part(text),
-        8 => value_part(state, text),
-        9 => unit_part(text),
-        10 => value_part(state, text),
+    match reason {
+        Reason::Long => past_long(text),
+        Reason::Byte => first_odd(text),
+        Reason::Keyword => keyword_part(text),
+        Reason::Value | Reason::TimeOrder => value_part(state, text),
+        Reason::Unit => unit_part(text),
         _ => lines::trim(text),
     }
 }

@@ -1,13 +1,14 @@
 -- Laws of the definitions on a line judged.
 -- Assumes nothing.
-use mathlib.Core.Path.{◌≡◌, refl, ap, sym, ◌∙◌}
+use mathlib.Core.Path.{◌≡◌, refl, ap, ◌∙◌}
 use mathlib.Core.List.{List, [], ◌∷◌}
-use mathlib.Core.Bool.{Bool, true, false, not}
+use mathlib.Core.Bool.{Bool, true, false, not, ◌&&◌, cond}
+use Rattle.std.proofs.Common.{All as EachOf, find, is_none, Some}
+use Rattle.std.proofs.lemmas.List.{take_all, get_or_default}
+use Rattle.std.proofs.lemmas.Grind.{get_or_after_one}
 use Prim.Native.Nat.{ℕ, zero, suc, ◌+◌, ◌-◌, ◌≤◌, ◌<◌}
-use native.Mathlib.Numerals.{add-one}
 use native.Mathlib.Omega.{arith}
-use lib.ListN.{length, get_or, set, take, drop, replicate, length-set, length-take, length-drop, drop_of_length-le}
-use lib.Seq.{drop-cons}
+use lib.ListN.{length, get_or, set, take, drop, replicate, length-set, length-take, length-drop}
 use Rattle.lines.specs.Text.{no_span}
 use Rattle.lines.specs.declared.Span.{Span}
 use Rattle.values.specs.Number.{is_number}
@@ -18,39 +19,43 @@ use Rattle.lines.specs.declared.Sides.{Sides}
 use Rattle.lines.specs.declared.Fields.{Fields}
 use borrow.Author.Tests.{ltb-true}
 use Rattle.lines.proofs.Laws.{trim_within}
-use Rattle.epochs.specs.Epoch.{epoch_of}
-use Rattle.epochs.specs.declared.Instant.{Instant}
 use Rattle.grammar.specs.Keywords.{is_unit}
 use Rattle.lines.specs.declared.Form.{Form}
 use Rattle.lines.specs.declared.Form.TheVariants.{Opm, Oem}
-use Rattle.step.specs.Step.{part, Inside, SevenInside, are_numbers, is_timely, word_len, number_of, no_row, one_row, seven_rows, past, past_data, past_comment, fields_of, data_at, data_of, filled_of, step_of}
+use Rattle.step.specs.Step.{part, Inside, SevenInside, are_numbers, word_len, number_of, no_row, one_row, past, fields_of, data_of, filled_of, step_of}
 use Rattle.step.specs.declared.State.{State}
 use Rattle.step.specs.declared.Step.{Step}
 use Rattle.reasons.specs.declared.Reason.{Reason}
 use Rattle.reasons.specs.declared.Reason.TheVariants as Reasons
-use Rattle.std.specs.Prelude.{Option, Some, None, Result, Ok, Err, IsOk}
+use Rattle.std.specs.Prelude.{Some, None, Result, Ok, Err, IsOk}
 
--- ---- fields that are numbers, seen from a place in the list of spans
+-- ---- fields that are numbers
 
-module _ (ps : List Span) (s : List ℕ) (i : ℕ) where
-  pub numbers_end : length ps ≤ i → are_numbers (drop i ps) s ≡ true
-  unfolding are_numbers
-  numbers_end h = rw (drop_of_length-le ps h)
+numbers_none : (ps : List Span) (s : List ℕ) → is_none (find (λ p. not (is_number (part p s))) ps) ≡ are_numbers ps s
+unfolding are_numbers
+numbers_none [] s = refl
+numbers_none (p ∷ ps) s = go (is_number (part p s)) (numbers_none ps s)
+  where
+    go : (t : Bool) → is_none (find (λ q. not (is_number (part q s))) ps) ≡ are_numbers ps s
+        → is_none (cond (not t) (Some p) (find (λ q. not (is_number (part q s))) ps)) ≡ t && are_numbers ps s
+    go true e = e
+    go false e = refl
 
-  pub numbers_more : i < length ps → is_number (part (get_or ps i no_span) s) ≡ true → are_numbers (drop i ps) s ≡ are_numbers (drop (i + 1) ps) s
-  unfolding are_numbers
-  numbers_more h e = rw (add-one i, drop-cons ps i no_span h, e)
+-- the fields behind the first, as the code has them
+module _ (ps : List Span) (s : List ℕ) (h : SevenInside ps s) where
+  pub rest_whole : take 6 (drop 1 ps) ≡ drop 1 ps
+  rest_whole = take_all 6 (drop 1 ps) (omega (arith, h.size, length-drop 1 ps))
 
-  pub numbers_stop : i < length ps → is_number (part (get_or ps i no_span) s) ≡ false → are_numbers (drop i ps) s ≡ false
-  unfolding are_numbers
-  numbers_stop h e = rw (drop-cons ps i no_span h, e)
+  pub rest_inside : EachOf (λ p. Inside p s) (take 6 (drop 1 ps))
+  rest_inside k d e =
+      let q : get_or (take 6 (drop 1 ps)) k d ≡ get_or ps (1 + k) no_span =
+      get_or_default (take 6 (drop 1 ps)) k d no_span e ∙ ap (λ (xs : List Span). get_or xs k no_span) rest_whole ∙ get_or_after_one ps k no_span in
+      rw q (h.inside (1 + k))
+
+  pub rest_none : is_none (find (λ p. not (is_number (part p s))) (take 6 (drop 1 ps))) ≡ are_numbers (drop 1 ps) s
+  rest_none = rw rest_whole (numbers_none (drop 1 ps) s)
 
 -- ---- what goes by the message type
-
-pub comment_in : (st : State) (f : Form) → st.form ≡ f
-    → past_comment st ≡ elim f [ Opm ↦ st | Oem ↦ elim (eqb st.last 9) [ true ↦ past st 45 | false ↦ st ] ]
-unfolding past_comment
-comment_in st f e = ap (λ (g : Form). elim g [ Opm ↦ st | Oem ↦ elim (eqb st.last 9) [ true ↦ past st 45 | false ↦ st ] ]) e
 
 pub fields_in_lem : (st : State) (s : List ℕ) (f : Form) → st.form ≡ f
     → fields_of st s
@@ -80,18 +85,11 @@ module _ (r : Reason) {x y : Result Step Reason} where
   spared false p e = p
 
 module _ (st : State) (s : List ℕ) where
-  pub data_right : (f : Fields) (t : Instant) → IsOk (data_at st f t s) → data_at st f t s ≡ Ok (seven_rows (past_data st t) f.spans)
-  unfolding data_at
-  data_right f t e = kept _ (is_timely st t) (kept _ (are_numbers (drop 1 f.spans) s) refl e) e
-
   pub step_right : IsOk (step_of st s) → step_of st s ≡ elim (eqb (trim_of s).to 0) [ true ↦ Ok (no_row st) | false ↦ filled_of st (trim_of s) s ]
   unfolding step_of
   step_right e = spared _ (ltb (odd_at s) (length s)) (spared _ (is_long s) refl e) e
 
 -- ---- an epoch read by one who found out whether second 60 may stand
-
-pub epoch_read : (v : List ℕ) (asked may : Bool) (e : Option Instant) → e ≡ epoch_of v asked → asked ≡ may → epoch_of v may ≡ e
-epoch_read v asked may e h k = sym (h ∙ ap (epoch_of v) k)
 
 -- ---- parts of a text
 

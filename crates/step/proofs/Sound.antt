@@ -49,25 +49,30 @@ small_codes : List Entry → Bool
 small_codes [] = true
 small_codes (k ∷ ks) = leb k.code 45 && small_codes ks
 
-code-le : (ks : List Entry) (s : List ℕ) → small_codes ks ≡ true → code_in ks s ≤ 45
+code-le : (ks : List Entry) (s : List ℕ) (c : ℕ) → small_codes ks ≡ true → code_in ks s ≡ Some c → c ≤ 45
 unfolding code_in small_codes
-code-le [] s e = omega arith
-code-le (k ∷ ks) s e = go (is_word k.word s) (leb k.code 45) refl e (code-le ks s)
+code-le [] s c e h = cc
+code-le (k ∷ ks) s c e h = go (is_word k.word s) (leb k.code 45) refl e h (code-le ks s c)
   where
-    go : (t u : Bool) → leb k.code 45 ≡ u → u && small_codes ks ≡ true → (small_codes ks ≡ true → code_in ks s ≤ 45)
-        → elim t [ true ↦ k.code | false ↦ code_in ks s ] ≤ 45
-    go true true q r f = leb-true k.code 45 q
-    go true false q r f = absurd (false≢true r)
-    go false true q r f = f r
-    go false false q r f = absurd (false≢true r)
+    go : (t u : Bool) → leb k.code 45 ≡ u → u && small_codes ks ≡ true → elim t [ true ↦ Some k.code | false ↦ code_in ks s ] ≡ Some c
+        → (small_codes ks ≡ true → code_in ks s ≡ Some c → c ≤ 45) → c ≤ 45
+    go true true q r h f = let z : k.code ≡ c = cc in rw (← z) (leb-true k.code 45 q)
+    go true false q r h f = absurd (false≢true r)
+    go false true q r h f = f r h
+    go false false q r h f = absurd (false≢true r)
 
 keyword_le : (f : Form) (s : List ℕ) (c : ℕ) → keyword_of f s ≡ Some c → c ≤ 45
 unfolding keyword_of small_codes keywords bytes
-keyword_le f s c = go (assigns f (code_in keywords s)) (code_in keywords s) (code-le keywords s refl)
+keyword_le f s c = go (code_in keywords s) (λ n. code-le keywords s n refl)
   where
-    go : (t : Bool) (n : ℕ) → n ≤ 45 → elim t [ true ↦ Some n | false ↦ None ] ≡ Some c → c ≤ 45
-    go true n h e = let q : n ≡ c = cc in omega arith
-    go false n h e = let z : ◌≡◌ {A = ℕ} 0 1 = cc in omega arith
+    go : (y : Option ℕ) → ((n : ℕ) → y ≡ Some n → n ≤ 45)
+        → elim y [ Some n ↦ elim (assigns f n) [ true ↦ Some n | false ↦ None ] | None ↦ None ] ≡ Some c → c ≤ 45
+    go (Some n) h e = kept (assigns f n) (h n refl) e
+      where
+        kept : (t : Bool) → n ≤ 45 → elim t [ true ↦ Some n | false ↦ None ] ≡ Some c → c ≤ 45
+        kept true h e = let q : n ≡ c = cc in omega arith
+        kept false h e = cc
+    go None h e = cc
 
 meta_le : (f : Form) (t : List ℕ) (c : ℕ) → meta_code f t ≡ Some c → c ≤ 45
 unfolding meta_code

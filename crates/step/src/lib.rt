@@ -1,8 +1,9 @@
 // One line of a message judged from its text and the state alone; no place in the feed is part of the state.
 #![tactic(auto)]
 
-ghost use Rattle.std.specs.Prelude.{◌≡◌, drop};
-ghost use Rattle.step.specs.Step.{no_row, one_row, fresh_state, past, fits_here, sixty_stands, Inside, SevenInside, Sure, is_timely, are_numbers, past_data, data_at, data_of, fields_of, past_whole, whole_of, number_of, past_time, is_early, time_of, value_of, assign_of, meta_code, meta_of, plain_of, past_comment, uncommented_of, filled_of, step_of};
+ghost use Rattle.std.specs.Prelude.{◌≡◌, drop, not, find, All};
+ghost use Rattle.values.specs.Number.{is_number};
+ghost use Rattle.step.specs.Step.{no_row, one_row, fresh_state, part, past, fits_here, sixty_stands, Inside, SevenInside, Sure, is_timely, are_numbers, past_data, data_at, data_of, fields_of, past_whole, whole_of, number_of, past_time, is_early, time_of, value_of, assign_of, meta_code, meta_of, plain_of, past_comment, uncommented_of, filled_of, step_of};
 
 use epochs::{Instant, epoch_of, is_before};
 use grammar::Kind;
@@ -50,23 +51,24 @@ fn meta_code(form: Form, text: &[u8]) -> Option<u16>
     }
 }
 
+// The first of some fields that is no number.
+pub fn no_number(fields: &[Span], text: &[u8]) -> Option<Span>
+    requires { All (λ p. Inside p text.now) fields.now }
+    ensures { result ≡ find (λ p. not (is_number (part p text.now))) fields.now }
+{
+    fields
+        .iter()
+        .copied()
+        .find(|p| !values::is_number(&text[p.from..p.to]))
+}
+
 // Each of the seven fields but the first is a number.
-#[tactic(auto, using(crate::proofs::Laws::numbers_end, crate::proofs::Laws::numbers_more, crate::proofs::Laws::numbers_stop))]
+#[tactic(auto, using(crate::proofs::Laws::rest_none))]
 fn are_numbers(spans: [Span; 7], text: &[u8]) -> bool
     requires { SevenInside spans text.now }
     ensures { result ≡ are_numbers (drop 1 spans) text.now }
 {
-    let mut i = 1;
-    while i < 7 {
-        let p = spans[i];
-        let from = p.from;
-        let to = p.to;
-        if !values::is_number(&text[from..to]) {
-            return false;
-        }
-        i += 1;
-    }
-    true
+    no_number(&spans[1..], text).is_none()
 }
 
 impl State {

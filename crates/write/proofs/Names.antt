@@ -35,12 +35,13 @@ module _ (p : ℕ → List ℕ → Bool) where
   each_word (k ∷ ks) = p k.code k.word && each_word ks
 
   -- a word with its code passes it
-  each-code : (s : List ℕ) (c : ℕ) (ks : List Entry) → each_word ks ≡ true → code_in ks s ≡ c → (c ≡ 0 → ⊥) → p c s ≡ true
+  each-code : (s : List ℕ) (c : ℕ) (ks : List Entry) → each_word ks ≡ true → code_in ks s ≡ Some c → p c s ≡ true
   unfolding code_in each_word
-  each-code s c [] o e h = absurd (h (sym e))
-  each-code s c (k ∷ ks) o e h =
+  each-code s c [] o e = cc
+  each-code s c (k ∷ ks) o e =
       let w = (and-eq-true_iff (p k.code k.word) (each_word ks)).0 o in
-      whether (λ (n : ℕ). n ≡ c → p c s ≡ true) (is_word k.word s) (λ q r. rw (← r, word-is k.word s q) w.0) (λ q r. each-code s c ks w.1 r h) e
+      whether (λ (n : Option ℕ). n ≡ Some c → p c s ≡ true) (is_word k.word s)
+      (λ q r. let z : k.code ≡ c = cc in rw (← z, word-is k.word s q) w.0) (λ q r. each-code s c ks w.1 r) e
 
   -- a code with its word passes it, where it would with none
   pub each_word_lem : (c : ℕ) (ks : List Entry) → each_word ks ≡ true → p c [] ≡ true → p c (word_in ks c) ≡ true
@@ -50,15 +51,15 @@ module _ (p : ℕ → List ℕ → Bool) where
       let w = (and-eq-true_iff (p k.code k.word) (each_word ks)).0 o in
       whether (λ (s : List ℕ). p c s ≡ true) (eqb c k.code) (λ q. rw (eqb-true c k.code q) w.0) (λ q. each_word_lem c ks w.1 e)
 
-word_of_code : (s : List ℕ) (c : ℕ) → code_in keywords s ≡ c → (c ≡ 0 → ⊥) → word_in keywords c ≡ s
+word_of_code : (s : List ℕ) (c : ℕ) → code_in keywords s ≡ Some c → word_in keywords c ≡ s
 unfolding keywords each_word word_in is_word agrees bytes
-word_of_code s c e h = sym (word-is _ s (each-code (λ n w. is_word (word_in keywords n) w) s c keywords refl e h))
+word_of_code s c e = sym (word-is _ s (each-code (λ n w. is_word (word_in keywords n) w) s c keywords refl e))
 
 -- the codes of META lines, of comments and of data fields are not assigned
-never : (f : Form) → (assigns f 0 ≡ false) × (assigns f 37 ≡ false) × (assigns f 44 ≡ false) × (assigns f 45 ≡ false)
+never : (f : Form) → (assigns f 37 ≡ false) × (assigns f 44 ≡ false) × (assigns f 45 ≡ false)
 unfolding pick
-never Opm = (refl, refl, refl, refl)
-never Oem = (refl, refl, refl, refl)
+never Opm = (refl, refl, refl)
+never Oem = (refl, refl, refl)
 
 no_field : (f : Form) (c : ℕ) → assigns f c ≡ true → is_field f c ≡ false
 unfolding is_field
@@ -79,15 +80,19 @@ pub record Assigned (f : Form) (w : List ℕ) (c : ℕ) : Type 0 where
 
 pub assigned : (f : Form) (w : List ℕ) (c : ℕ) → keyword_of f w ≡ Some c → Assigned f w c
 unfolding keyword_of
-assigned f w c =
-    whether (λ k. k ≡ Some c → Assigned f w c) (assigns f (code_in keywords w))
-    (λ q e.
-    let n : code_in keywords w ≡ c = cc in
-    let a : assigns f c ≡ true = rw n at q in
-    let no : (m : ℕ) → assigns f m ≡ false → c ≡ m → ⊥ = λ m z h. false≢true (sym z ∙ ap (assigns f) (sym h) ∙ a) in
-    let z = never f in
-    record { word = word_of_code w c n (no 0 z.0); other = (no 37 z.1, no 44 z.2, no 45 z.3); field = no_field f c a })
-    (λ q e. let z : ◌≡◌ {A = ℕ} 0 1 = cc in absurd (omega arith))
+assigned f w c = go (code_in keywords w) refl
+  where
+    go : (y : Option ℕ) → code_in keywords w ≡ y → elim y [ Some n ↦ elim (assigns f n) [ true ↦ Some n | false ↦ None ] | None ↦ None ] ≡ Some c → Assigned f w c
+    go (Some n) k =
+        whether (λ x. x ≡ Some c → Assigned f w c) (assigns f n)
+        (λ q e.
+        let z : n ≡ c = cc in
+        let a : assigns f c ≡ true = rw z at q in
+        let no : (m : ℕ) → assigns f m ≡ false → c ≡ m → ⊥ = λ m z h. false≢true (sym z ∙ ap (assigns f) (sym h) ∙ a) in
+        let x = never f in
+        record { word = word_of_code w c (k ∙ ap Some z); other = (no 37 x.0, no 44 x.1, no 45 x.2); field = no_field f c a })
+        (λ q e. cc)
+    go None k e = cc
 
 -- ---- a line that is right
 
