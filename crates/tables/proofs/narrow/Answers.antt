@@ -11,8 +11,8 @@ returns-then-not-same_entries c = let w = narrow_unlike _ _ (sym c.same_entries.
 pub returns-then-any_wide : goal.returns-then-any_wide
 returns-then-any_wide c = let w = narrow_wide _ _ (sym c.same_entries.ensures ∙ c.if-not-same_entries.false) (sym c.if-any_wide.true ∙ c.any_wide.ensures) in record { answer = w.0; table = w.1 }
 
-pub narrow_entries-requires : goal.narrow_entries-requires
-narrow_entries-requires c = eqb-true _ _ (sym c.same_entries.ensures ∙ c.if-not-same_entries.false)
+pub copy_entries-requires-clause-alike : goal.copy_entries-requires-clause-alike
+copy_entries-requires-clause-alike c = sym (eqb-true _ _ (sym c.same_entries.ensures ∙ c.if-not-same_entries.false))
 
 pub returns : goal.returns
-returns c = let w = narrow_done _ _ (sym c.same_entries.ensures ∙ c.if-not-same_entries.false) (sym c.if-any_wide.false ∙ c.any_wide.ensures) _ c.narrow_entries.ensures in record { answer = w.0; table = w.1 }
+returns c = let w = narrow_done _ _ (sym c.same_entries.ensures ∙ c.if-not-same_entries.false) (sym c.if-any_wide.false ∙ c.any_wide.ensures) _ c.copy_entries.ensures in record { answer = w.0; table = w.1 }

@@ -1,22 +1,14 @@
--- `tables::put_entry` meets its contract: four stores, the low byte first.
+-- `tables::put_entry` meets its contract: the number's lowest bytes stand in the entry's place.
 -- Assumes nothing.
-use Prim.Native.Nat.{suc, ◌+◌, ◌*◌}
-use mathlib.Core.Path.{◌≡◌}
+use Prim.Native.Nat.{◌*◌}
+use mathlib.Core.Path.{◌≡◌, ◌∙◌}
 use native.Mathlib.Omega.{arith}
-use lib.ListN.{length-set}
 use Rattle.tables.specs.Table.{entry_bytes}
+use Rattle.tables.proofs.Entries.{low_bytes, put_sets, bytes-length}
 use Rattle.tables.proofs.put_entry.Goals as goal
 
-pub bounds-table-i-2 : goal.bounds-table-i-2
-bounds-table-i-2 c = simp length-set (omega arith)
-
-pub bounds-table-i-3 : goal.bounds-table-i-3
-bounds-table-i-3 c = simp length-set (omega arith)
-
 pub returns : goal.returns
-unfolding entry_bytes
-returns c = let i = c.args.i in
-    let b : 4 * i + 1 ≡ suc (4 * i) = omega arith in
-    let d : 4 * i + 2 ≡ suc (suc (4 * i)) = omega arith in
-    let e : 4 * i + 3 ≡ suc (suc (suc (4 * i))) = omega arith in
-    rw (b, d, e)
+returns g c =
+    let w = g.row.WIDTH in
+    let e : c.copy_from_slice.new.self ≡ entry_bytes w c.args.n = c.copy_from_slice.ensures.after ∙ rw c.to_le_bytes.ensures (low_bytes w c.args.n c.requires.width) in
+    rw e (put_sets (w * c.args.i) _ _ _ (rw bytes-length (omega arith)) (omega arith))
