@@ -4,8 +4,10 @@ use mathlib.Core.Path.{◌≡◌, refl, sym, ◌∙◌}
 use mathlib.Core.List.{List, [], ◌∷◌, ◌++◌, append_assoc}
 use Prim.Native.Nat.{ℕ, zero, suc, ◌+◌, ◌-◌, ◌*◌, ◌/◌, ◌%◌, ◌<◌, ◌≤◌}
 use native.Mathlib.Nat.{zero-add, add-zero, div-div-eq-div-mul, div-add-mod', div-lt_iff_lt-mul}
+use native.Mathlib.Numerals.{add-one}
 use native.Mathlib.Omega.{arith}
-use lib.ListN.{length, take, drop, length-take, length-drop, take-append-drop}
+use lib.ListN.{length, set, get_or, take, drop, length-take, length-drop, take-append-drop}
+use Rattle.std.proofs.lemmas.List.{get_or-drop}
 use borrow.Rule.Slice.PartMut.{put_mid}
 use Rattle.std.specs.Int.{w32, to_le_bytes, from_le_bytes}
 use lib.Seq.{sets, sets-eq, drop-drop, get_or-append-add}
@@ -88,3 +90,14 @@ from_four w p t h k =
     let cut : number_at w b 0 ≡ number_at w a 0 = rw (take-append-drop, add-zero, l) at (number_front a (drop w b) 0 refl) in
     let past : number_at w t p ≡ number_at w b 0 = rw (take-append-drop, add-zero, q) at (number_past w (take p t) b 0) in
     four_bytes (a ++ z) ∙ short ∙ sym cut ∙ sym past
+
+-- one more byte read into its place
+over : (k : ℕ) (xs zs : List ℕ) → k < length xs → k < length zs → set (take k xs ++ drop k zs) k (get_or xs k 0) ≡ take (suc k) xs ++ drop (suc k) zs
+over k [] zs h i = absurd (omega arith)
+over k (x ∷ xs) [] h i = absurd (omega arith)
+over zero (x ∷ xs) (z ∷ zs) h i = refl
+over (suc k) (x ∷ xs) (z ∷ zs) h i = rw (over k xs zs (omega arith) (omega arith))
+
+pub read_more : (t b zs : List ℕ) (p k : ℕ) → b ≡ take k (drop p t) ++ drop k zs → p + k < length t → k < length zs
+    → set b k (get_or t (p + k) 0) ≡ take (k + 1) (drop p t) ++ drop (k + 1) zs
+read_more t b zs p k e h i = rw (e, add-one k, ← (get_or-drop p t k 0)) (over k (drop p t) zs (simp length-drop (omega arith)) i)

