@@ -3,7 +3,7 @@
 use mathlib.Core.Path.{◌≡◌, refl, sym, ◌∙◌}
 use mathlib.Core.List.{List, ◌++◌, append_assoc}
 use mathlib.Core.Bool.{Bool, true, false, ◌||◌}
-use Prim.Native.Nat.{ℕ, zero, suc, ◌+◌, ◌*◌, ◌≤◌, ◌<◌}
+use Prim.Native.Nat.{ℕ, zero, suc, ◌+◌, ◌-◌, ◌*◌, ◌≤◌, ◌<◌}
 use native.Mathlib.Numerals.{add-one}
 use native.Mathlib.Nat.{mul-zero, mul-suc, mul-le-mul_left, mul-div-le}
 use native.Mathlib.Omega.{arith}
@@ -12,6 +12,7 @@ use Rattle.std.specs.List.{IsAnyAnswer, list_any, range_with_len}
 use Rattle.std.proofs.lemmas.List.Folds.{list_any_at, list_any_none}
 use lib.ListN.{length, drop, length-append, length-drop}
 use lib.Seq.{sets, sets-eq, length-sets, drop-drop, take-append_seam, drop-append-add}
+use borrow.Author.Tests.{lt-ltb, le-ltb}
 use Rattle.reasons.specs.declared.Reason.TheVariants as Reasons
 use Rattle.tables.specs.Table.{host_width, recorded_width, entry_bytes, entry_at}
 use Rattle.tables.specs.Widths.{entries_in, rewritten, copied, some_wide, widen_of, narrow_of, made_by, widened, narrowed}
@@ -85,6 +86,25 @@ wide_any u i (suc k) = rw (wide_any u (i + 1) k) (either (is_wide u i) _)
 pub wide_found : (u : List ℕ) (k : ℕ) (b : Bool) → IsAnyAnswer (λ i a. is_wide u i ≡ a) (range_with_len 0 k) b → b ≡ some_wide u 0 k
 wide_found u k true m = sym (list_any_at (is_wide u) (range_with_len 0 k) m.0 0 m.1 (m.2 0)) ∙ wide_any u 0 k
 wide_found u k false m = sym (list_any_none (is_wide u) (range_with_len 0 k) (λ j d h. m j d (omega arith) h)) ∙ wide_any u 0 k
+
+-- ---- the same, step by step
+
+module _ (u : List ℕ) (i k : ℕ) where
+  pub wide_here : i < k → 65535 < entry_at host_width u i → some_wide u i (k - i) ≡ true
+  unfolding some_wide
+  wide_here h e = let q : k - i ≡ suc (k - (i + 1)) = omega arith in rw q (rw (lt-ltb _ _ e, some_wide))
+
+  -- the same of an entry as it was read
+  pub wide_seen : (v : ℕ) → v ≡ entry_at host_width u i → 65535 < v → i < k → some_wide u i (k - i) ≡ true
+  wide_seen v e w h = wide_here h (rw e at w)
+
+  pub wide_on : i < k → entry_at host_width u i ≤ 65535 → some_wide u i (k - i) ≡ some_wide u (i + 1) (k - (i + 1))
+  unfolding some_wide
+  wide_on h e = let q : k - i ≡ suc (k - (i + 1)) = omega arith in rw q (rw (le-ltb _ _ e, some_wide))
+
+  pub wide_none : k ≤ i → some_wide u i (k - i) ≡ false
+  unfolding some_wide
+  wide_none h = let q : k - i ≡ 0 = omega arith in rw q
 
 -- ---- the answers and the tables, one law a case: t is a recorded table and u the host's
 

@@ -51,9 +51,11 @@ low_bytes (suc (suc (suc zero))) n h = simp div-div-eq-div-mul
 low_bytes (suc (suc (suc (suc zero)))) n h = simp div-div-eq-div-mul
 low_bytes (suc (suc (suc (suc (suc w))))) n h = absurd (omega arith)
 
--- bytes put over others as one part, and one by one
-pub put_sets : (a k : ℕ) (xs ys : List ℕ) → length ys ≡ k → a + k ≤ length xs → put_mid a k xs ys ≡ sets xs a ys
-put_sets a k xs ys e h = rw (sets-eq ys xs a (omega arith), ← e) (simp (drop-drop, append_assoc))
+-- an entry's bytes put over others as one part, and one by one
+pub entry_put : (w p k n : ℕ) (t ys : List ℕ) → ys ≡ take w (to_le_bytes w32 n) → k ≡ w → w ≤ 4 → p + w ≤ length t → put_mid p k t ys ≡ sets t p (entry_bytes w n)
+entry_put w p k n t ys e q h i =
+    let b = bytes-length w n in
+    rw (e, low_bytes w n h, sets-eq (entry_bytes w n) t p (omega arith), q, b) (simp (drop-drop, append_assoc))
 
 -- bytes that are 0 behind some add nothing to their number, and bytes past its width do not count
 number_front : (xs ys : List ℕ) (k : ℕ) → number_at k ys 0 ≡ 0 → number_at (length xs + k) (xs ++ ys) 0 ≡ number_at (length xs) xs 0

@@ -28,6 +28,7 @@ pub enum Resized {
 pub const ROW_BYTES: usize = 20;
 
 // An entry put in its place, at a width.
+#[tactic(auto, using(crate::proofs::Entries::entry_put))]
 fn put_entry<const WIDTH: usize>(table: &mut [u8], i: usize, n: u32)
     requires width { WIDTH ≤ 4 }
     requires place { WIDTH * i + WIDTH ≤ length table.old }
@@ -38,6 +39,7 @@ fn put_entry<const WIDTH: usize>(table: &mut [u8], i: usize, n: u32)
 }
 
 // An entry read, at a width.
+#[tactic(auto, using(crate::proofs::Entries::read_more, crate::proofs::Entries::from_four))]
 fn get_entry<const WIDTH: usize>(table: &[u8], i: usize) -> u32
     requires width { WIDTH ≤ 4 }
     requires place { WIDTH * i + WIDTH ≤ length table.now }
@@ -53,6 +55,7 @@ fn get_entry<const WIDTH: usize>(table: &[u8], i: usize) -> u32
 }
 
 // One row put in its place, where it is wholly in the table.
+#[tactic(auto, unfolding(crate::specs::Table::put_row), using(crate::proofs::Tables::row_stored))]
 pub fn put_row(table: &mut [u8], n: u32, row: Row)
     ensures { table.new ≡ put_row n row table.old }
 {
@@ -68,6 +71,7 @@ pub fn put_row(table: &mut [u8], n: u32, row: Row)
 }
 
 // One row read.
+#[tactic(auto, unfolding(crate::specs::Table::row_at))]
 fn get_row(table: &[u8], n: usize) -> Row
     requires { 20 * n + 20 ≤ length table.now }
     ensures { result ≡ row_at host_width table.now n }
@@ -82,6 +86,7 @@ fn get_row(table: &[u8], n: usize) -> Row
 }
 
 // The row at a row number, if it lies in the table and its span in the feed.
+#[tactic(auto, unfolding(crate::specs::Hearing::row_heard, crate::specs::Hearing::span_of))]
 pub fn row_heard(n: u32, feed: &[u8], table: &[u8]) -> Heard
     ensures { result ≡ row_heard host_width n feed.now table.now }
 {
@@ -110,6 +115,7 @@ fn any_wide(table: &[u8]) -> bool
 }
 
 // Every entry of a table put into one of another width.
+#[tactic(auto, using(crate::proofs::Copies::copy_none, crate::proofs::Copies::copy_next))]
 fn copy_entries<const FROM: usize, const TO: usize>(from: &[u8], to: &mut [u8])
     requires from { (0 < FROM) × (FROM ≤ 4) }
     requires to { TO ≤ 4 }
@@ -122,6 +128,7 @@ fn copy_entries<const FROM: usize, const TO: usize>(from: &[u8], to: &mut [u8])
 }
 
 // A recorded table of two bytes an entry made one of four, in which each row reads as it did.
+#[tactic(auto, unfolding(crate::specs::Widths::widen_of, crate::specs::Widths::made_by))]
 pub fn widen(narrow: &[u8], wide: &mut [u8]) -> Resized
     ensures answer { result ≡ widen_of narrow.now wide.old }
     ensures table { wide.new ≡ widened narrow.now wide.old }
@@ -134,6 +141,7 @@ pub fn widen(narrow: &[u8], wide: &mut [u8]) -> Resized
 }
 
 // A table made a recorded one of two bytes an entry, if every entry fits.
+#[tactic(auto, unfolding(crate::specs::Widths::narrow_of, crate::specs::Widths::made_by))]
 pub fn narrow(wide: &[u8], narrow: &mut [u8]) -> Resized
     ensures answer { result ≡ narrow_of wide.now narrow.old }
     ensures table { narrow.new ≡ narrowed wide.now narrow.old }
