@@ -7,7 +7,7 @@ use Prim.Native.Nat.{ℕ, suc, ◌+◌, ◌-◌, ◌*◌, ◌≤◌, ◌<◌}
 use native.Mathlib.Numerals.{add-one}
 use native.Mathlib.Omega.{arith}
 use lib.Dec.{eqb, ltb}
-use lib.ListN.{length, take, drop, get_or, length-append}
+use lib.ListN.{length, take, drop, get_or, length-append, length-drop}
 use borrow.Author.Tests.{lt-ltb, le-ltb, ltb-false}
 use lib.Seq.{length-take-le, drop-cons, get_or-take}
 use Rattle.lines.specs.Feed.{Line}
@@ -60,6 +60,10 @@ put_turn n c g line at i k ps t h j =
     let v : c + (i + 1) ≡ c + i + 1 = omega arith in
     let d : drop i (take k ps) ≡ get_or ps i no_span ∷ drop (i + 1) (take k ps) = rw (add-one i, ← get_or-take k ps i no_span h) (drop-cons (take k ps) i no_span (omega arith)) in
     rw (d, u, v) (put_first _ _ g line at t _ _)
+
+-- past the last of a line's rows there is none to put
+pub put_past : (n c g line at i : ℕ) (ps : List Span) (t : List ℕ) → length ps ≤ i → put_rows n (rows_at c g line at (drop i ps)) t ≡ t
+put_past n c g line at i ps t h = put_none n c g line at t (drop i ps) (simp length-drop (omega arith))
 
 -- ---- what a step answers
 
