@@ -63,6 +63,7 @@ pub fn put_row(table: &mut [u8], n: u32, row: Row)
     if table.len() < ROW_BYTES * (i + 1) {
         return;
     }
+    // A line a field, as in get_row: an array and a loop would not say plainer which entry is which.
     put_entry::<4>(table, 5 * i, row.code);
     put_entry::<4>(table, 5 * i + 1, row.group);
     put_entry::<4>(table, 5 * i + 2, row.line);

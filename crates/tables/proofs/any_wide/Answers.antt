@@ -12,5 +12,4 @@ use Rattle.tables.proofs.any_wide.Goals as goal
 pub returns : goal.returns
 returns c = let t = c.args.table.now in
     let k = length t / 4 in
-    let all = YieldsList-from_range 0 k k (search rules) (search rules) in
-    wide_found t k _ (cases_from_any _ _ _ (λ i. is_wide t i ≡ true) (λ i. is_wide t i ≡ false) c.any.ensures.ran all (λ x q s. search rules) (λ x q s. search rules))
+    wide_found t k _ (cases_from_any _ _ _ (λ i. is_wide t i ≡ true) (λ i. is_wide t i ≡ false) c.any.ensures.ran (YieldsList-from_range 0 k k (search rules) (search rules)) (λ x q s. search rules) (λ x q s. search rules))
