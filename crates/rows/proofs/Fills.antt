@@ -7,7 +7,7 @@ use Prim.Native.Nat.{ℕ, suc, ◌+◌, ◌-◌, ◌*◌, ◌≤◌, ◌<◌}
 use native.Mathlib.Numerals.{add-one}
 use native.Mathlib.Omega.{arith}
 use lib.Dec.{eqb, ltb}
-use lib.ListN.{length, take, drop, get_or, length-append}
+use lib.ListN.{length, take, drop, get_or, length-append, length-drop}
 use borrow.Author.Tests.{lt-ltb, le-ltb, ltb-false}
 use lib.Seq.{length-take-le, drop-cons, get_or-take}
 use Rattle.lines.specs.Feed.{Line}
@@ -49,16 +49,27 @@ module _ (n c g line at : ℕ) (t : List ℕ) where
   unfolding put_rows rows_at
   put_first p ps = refl
 
--- the i-th of a line's first k rows put: what is left is put behind it
+-- the i-th of a line's rows put: what is left is put behind it
+pub put_next : (n c g line at i : ℕ) (ps : List Span) (t : List ℕ) → i < length ps
+    → put_rows (n + i) (rows_at (c + i) g line at (drop i ps)) t
+    ≡ put_rows (n + (i + 1)) (rows_at (c + (i + 1)) g line at (drop (i + 1) ps)) (put_row (n + i) (row_for (c + i) g line at (get_or ps i no_span)) t)
+put_next n c g line at i ps t h =
+    let u : n + (i + 1) ≡ n + i + 1 = omega arith in
+    let v : c + (i + 1) ≡ c + i + 1 = omega arith in
+    let d : drop i ps ≡ get_or ps i no_span ∷ drop (i + 1) ps = rw (add-one i) (drop-cons ps i no_span h) in
+    rw (d, u, v) (put_first _ _ g line at t _ _)
+
+-- the same of its first k rows
 pub put_turn : (n c g line at i k : ℕ) (ps : List Span) (t : List ℕ) → i < k → k ≤ length ps
     → put_rows (n + i) (rows_at (c + i) g line at (drop i (take k ps))) t
     ≡ put_rows (n + (i + 1)) (rows_at (c + (i + 1)) g line at (drop (i + 1) (take k ps))) (put_row (n + i) (row_for (c + i) g line at (get_or ps i no_span)) t)
 put_turn n c g line at i k ps t h j =
     let q : length (take k ps) ≡ k = length-take-le k ps j in
-    let u : n + (i + 1) ≡ n + i + 1 = omega arith in
-    let v : c + (i + 1) ≡ c + i + 1 = omega arith in
-    let d : drop i (take k ps) ≡ get_or ps i no_span ∷ drop (i + 1) (take k ps) = rw (add-one i, ← get_or-take k ps i no_span h) (drop-cons (take k ps) i no_span (omega arith)) in
-    rw (d, u, v) (put_first _ _ g line at t _ _)
+    rw (← (get_or-take k ps i no_span h)) (put_next n c g line at i (take k ps) t (omega arith))
+
+-- past the last of a line's rows there is none to put
+pub put_past : (n c g line at i : ℕ) (ps : List Span) (t : List ℕ) → length ps ≤ i → put_rows n (rows_at c g line at (drop i ps)) t ≡ t
+put_past n c g line at i ps t h = put_none n c g line at t (drop i ps) (simp length-drop (omega arith))
 
 -- ---- what a step answers
 
