@@ -39,11 +39,11 @@ module _ {A : Type 0} {after : A → List ℕ → A} {room : A → List ℕ → 
   left_last l e = e ∙ sym l.same
 
   pub left_done : Lawful after room → {x y : A} {o p : List ℕ} → Left after room x o y p → p ≡ [] → y ≡ after x o
-  left_done w {y = y} l e = sym (w.none y) ∙ ap (after y) (sym e) ∙ sym l.same
+  left_done w {y = y} l e = sym (w.put_none y) ∙ ap (after y) (sym e) ∙ sym l.same
 
   module _ (w : Lawful after room) {x y : A} {o : List ℕ} (p q : List ℕ) (l : Left after room x o y (p ++ q)) where
     pub left_room : room y p
-    left_room = w.first y p q l.fits
+    left_room = w.room_first y p q l.fits
 
     pub left_turn : {z : A} → z ≡ after y p → Left after room x o z q
-    left_turn e = record { same = l.same ∙ sym (w.more y p q) ∙ ap (λ (i : A). after i q) (sym e); fits = subst (λ (i : A). room i q) (sym e) (w.others y p q l.fits) }
+    left_turn e = record { same = l.same ∙ sym (w.put_then y p q) ∙ ap (λ (i : A). after i q) (sym e); fits = subst (λ (i : A). room i q) (sym e) (w.room_then y p q l.fits) }

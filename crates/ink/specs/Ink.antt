@@ -7,10 +7,10 @@ use Rattle.ink.specs.declared.Pen.{Pen}
 
 -- what takes bytes is, after some and then others, what it is after them all; room for them all is room for the first, and then for the others
 pub record Lawful {A : Type 0} (after : A → List ℕ → A) (room : A → List ℕ → Type 0) : Type 0 where
-  pub none : (x : A) → after x [] ≡ x
-  pub more : (x : A) (o p : List ℕ) → after (after x o) p ≡ after x (o ++ p)
-  pub first : (x : A) (o p : List ℕ) → room x (o ++ p) → room x o
-  pub others : (x : A) (o p : List ℕ) → room x (o ++ p) → room (after x o) p
+  pub put_none : (x : A) → after x [] ≡ x
+  pub put_then : (x : A) (o p : List ℕ) → after (after x o) p ≡ after x (o ++ p)
+  pub room_first : (x : A) (o p : List ℕ) → room x (o ++ p) → room x o
+  pub room_then : (x : A) (o p : List ℕ) → room x (o ++ p) → room (after x o) p
 
 -- some bytes that are only counted: a length fits 32 bits
 abbrev pub counted : Ruler → List ℕ → Ruler

@@ -19,10 +19,10 @@ counted-more r o p = let e : r.len + length o + length p ≡ r.len + length (o +
 
 pub ruler_laws : Lawful counted Counts
 ruler_laws = record {
-  none = counted-none;
-  more = counted-more;
-  first = λ r o p h. omega (arith, h, length-append o p);
-  others = λ r o p h. omega (arith, h, length-append o p);
+  put_none = counted-none;
+  put_then = counted-more;
+  room_first = λ r o p h. omega (arith, h, length-append o p);
+  room_then = λ r o p h. omega (arith, h, length-append o p);
 }
 
 written-none : (p : Pen) → written p [] ≡ p
@@ -35,8 +35,8 @@ written-more p o q =
 
 pub pen_laws : Lawful written Fits
 pen_laws = record {
-  none = written-none;
-  more = written-more;
-  first = λ p o q h. omega (arith, h, length-append o q);
-  others = λ p o q h. omega (arith, h, length-append o q, length-sets p.buffer.now p.len o);
+  put_none = written-none;
+  put_then = written-more;
+  room_first = λ p o q h. omega (arith, h, length-append o q);
+  room_then = λ p o q h. omega (arith, h, length-append o q, length-sets p.buffer.now p.len o);
 }

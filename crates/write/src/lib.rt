@@ -21,75 +21,6 @@ pub enum Written {
     Refused(Reason, u32),
 }
 
-// A row's value, out of the line that starts at `at`.
-fn value(feed: &[u8], at: usize, span: Span) -> &[u8]
-    requires { Held feed.now at span }
-    ensures { result.now ≡ held feed.now at span }
-{
-    &feed[at + span.from..at + span.to]
-}
-
-// The values of a line's rows, parted by one blank.
-fn put_values<I: Ink>(ink: &mut I, feed: &[u8], at: usize, step: Step)
-    requires values_held { ValuesHeld feed.now at step }
-    requires room { I.room ink.old (values_of feed.now at step) }
-    ensures { ink.new ≡ I.after ink.old (values_of feed.now at step) }
-{
-    let spans = step.spans;
-    ink.put(value(feed, at, spans[0]));
-    for &span in &spans[1..step.count] {
-        ink.put(b" ");
-        ink.put(value(feed, at, span));
-    }
-}
-
-// An assignment's keyword, as the line has it.
-fn keyword(feed: &[u8], at: usize) -> &[u8]
-    requires { at < length feed.now }
-    ensures { result.now ≡ name_of (text_at feed.now at) }
-{
-    let ends = lines::line_at(feed, at);
-    let text = &feed[at..ends.end];
-    let equals = words::byte_at(text, 61);
-    let name = lines::trim(&text[..equals]);
-    &text[name.from..name.to]
-}
-
-// What stands on a line of one row before its value.
-#[tactic(auto, using(crate::proofs::Leads::lead_start, crate::proofs::Leads::lead_stop, crate::proofs::Leads::lead_empty, crate::proofs::Leads::lead_blank), unfolding(words::specs::Words::bytes))]
-fn put_lead<I: Ink>(ink: &mut I, feed: &[u8], at: usize, code: u16, empty: bool)
-    requires at_in_bounds { at < length feed.now }
-    requires named { Named feed.now at code }
-    requires room { I.room ink.old (lead_of code empty) }
-    ensures { ink.new ≡ I.after ink.old (lead_of code empty) }
-{
-    match code {
-        37 => ink.put(b"META_START"),
-        44 => ink.put(b"META_STOP"),
-        45 if empty => ink.put(b"COMMENT"),
-        45 => ink.put(b"COMMENT "),
-        _ => {
-            ink.put(keyword(feed, at));
-            ink.put(b"=");
-        }
-    }
-}
-
-#[tactic(auto, using(crate::proofs::Leads::leads_none, crate::proofs::Leads::leads_one))]
-// A data line has seven rows, and nothing before their values.
-fn put_leads<I: Ink>(ink: &mut I, feed: &[u8], at: usize, step: Step)
-    requires at_in_bounds { at < length feed.now }
-    requires spans_len { length step.spans ≡ 7 }
-    requires named { step.count ≡ 1 → Named feed.now at step.code }
-    requires room { I.room ink.old (leads_of step) }
-    ensures { ink.new ≡ I.after ink.old (leads_of step) }
-{
-    if step.count == 1 {
-        let span = step.spans[0];
-        put_lead(ink, feed, at, step.code, span.from == span.to);
-    }
-}
-
 // An LF before each line but the first.
 fn break_of(first: bool) -> &'static [u8]
     ensures { result.now ≡ break_of first }
@@ -97,17 +28,81 @@ fn break_of(first: bool) -> &'static [u8]
     if first { b"" } else { b"\n" }
 }
 
-// A line that has rows.
-fn put_line<I: Ink>(ink: &mut I, feed: &[u8], at: usize, step: Step, first: bool)
-    requires at_in_bounds { at < length feed.now }
-    requires values_held { ValuesHeld feed.now at step }
-    requires named { step.count ≡ 1 → Named feed.now at step.code }
-    requires room { I.room ink.old (line_of first feed.now at step) }
-    ensures { ink.new ≡ I.after ink.old (line_of first feed.now at step) }
-{
-    ink.put(break_of(first));
-    put_leads(ink, feed, at, step);
-    put_values(ink, feed, at, step);
+// A line that has rows: it starts at `at` of the feed.
+#[derive(Clone, Copy, Drop)]
+struct Line<'a> {
+    feed: &'a [u8],
+    at: usize,
+    step: Step,
+    ghost at_in_bounds: { at < length feed.now },
+    ghost values_held: { ValuesHeld feed.now at step },
+    ghost named: { step.count ≡ 1 → Named feed.now at step.code },
+}
+
+impl Line<'_> {
+    // A row's value.
+    fn value(&self, span: Span) -> &[u8]
+        requires { Held self.now.feed.now self.now.at span }
+        ensures { result.now ≡ held self.now.feed.now self.now.at span }
+    {
+        &self.feed[self.at + span.from..self.at + span.to]
+    }
+
+    // An assignment's keyword, as the line has it.
+    fn keyword(&self) -> &[u8]
+        ensures { result.now ≡ name_of (text_at self.now.feed.now self.now.at) }
+    {
+        let ends = lines::line_at(self.feed, self.at);
+        let text = &self.feed[self.at..ends.end];
+        let equals = words::byte_at(text, 61);
+        let name = lines::trim(&text[..equals]);
+        &text[name.from..name.to]
+    }
+
+    // What stands before its values: a data line has seven, and nothing before them.
+    #[tactic(auto, using(crate::proofs::Leads::leads_none, crate::proofs::Leads::leads_start, crate::proofs::Leads::leads_stop, crate::proofs::Leads::leads_empty, crate::proofs::Leads::leads_blank), unfolding(words::specs::Words::bytes))]
+    fn put_lead<I: Ink>(&self, ink: &mut I)
+        requires { I.room ink.old (leads_of self.now.step) }
+        ensures { ink.new ≡ I.after ink.old (leads_of self.now.step) }
+    {
+        if self.step.count != 1 {
+            return;
+        }
+        let value = self.step.spans[0];
+        match self.step.code {
+            37 => ink.put(b"META_START"),
+            44 => ink.put(b"META_STOP"),
+            45 if value.from == value.to => ink.put(b"COMMENT"),
+            45 => ink.put(b"COMMENT "),
+            _ => {
+                ink.put(self.keyword());
+                ink.put(b"=");
+            }
+        }
+    }
+
+    // Its values, parted by one blank.
+    fn put_values<I: Ink>(&self, ink: &mut I)
+        requires { I.room ink.old (values_of self.now.feed.now self.now.at self.now.step) }
+        ensures { ink.new ≡ I.after ink.old (values_of self.now.feed.now self.now.at self.now.step) }
+    {
+        let spans = &self.step.spans;
+        ink.put(self.value(spans[0]));
+        for &span in &spans[1..self.step.count] {
+            ink.put(b" ");
+            ink.put(self.value(span));
+        }
+    }
+
+    // All of it, behind an LF where it is not the first.
+    fn put<I: Ink>(&self, ink: &mut I, first: bool)
+        requires { I.room ink.old (line_of first self.now.feed.now self.now.at self.now.step) }
+        ensures { ink.new ≡ I.after ink.old (line_of first self.now.feed.now self.now.at self.now.step) }
+    {
+        ink.put(break_of(first));
+        self.put_lead(ink);
+        self.put_values(ink);
+    }
 }
 
 // A walk along the message that starts at a place, with the step that judging takes: it puts the message's plain form.
@@ -129,7 +124,7 @@ fn walk<I: Ink>(ink: &mut I, feed: &[u8], from: usize, form: Form)
         }
         let step = moved.step;
         if 0 < step.count {
-            put_line(ink, feed, at, step, first);
+            Line { feed, at, step }.put(ink, first);
             first = false;
         }
         state = step.state;

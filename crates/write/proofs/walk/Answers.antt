@@ -33,17 +33,18 @@ returns-in-Offence g c =
     let r = c.loop-step.invariant.0 in
     absurd (not_both r.right (judged-wrong _ _ _ _ _ c.next_line-moved.ensures r.line r.rows _ c.in-Offence.is))
 
-pub put_line-requires : goal.put_line-requires
-put_line-requires g c =
+pub invariant_of-put : goal.invariant_of-put
+invariant_of-put g c =
+    let w = walk_on _ _ _ _ _ c.next_line-moved.ensures Right c.in-Within.is in
+    let v = verdict _ _ _ _ _ c.next_line-moved.ensures Right c.in-Within.is in
+    record { at_in_bounds = omega (arith, w.on, w.next); values_held = values_held _ _ _ _ _ w v c.if-step-gt0.true; named = named _ _ _ _ _ w v }
+
+pub put-requires : goal.put-requires
+put-requires g c =
     let l = c.loop-step in
     let w = walk_on _ _ _ _ _ c.next_line-moved.ensures Right c.in-Within.is in
     let v = verdict _ _ _ _ _ c.next_line-moved.ensures Right c.in-Within.is in
-    record {
-      at_in_bounds = omega (arith, w.on, w.next);
-      values_held = values_held _ _ _ _ _ w v c.if-step-gt0.true;
-      named = named _ _ _ _ _ w v;
-      room = left_room g.met.I.Ink.laws _ _ (left_same (some_left _ _ _ _ _ w v l.first c.if-step-gt0.true) l.invariant.1);
-    }
+    left_room g.met.I.Ink.laws _ _ (left_same (some_left _ _ _ _ _ w v l.first c.if-step-gt0.true) l.invariant.1)
 
 pub loop-step-smaller : goal.loop-step-smaller
 loop-step-smaller g c =
@@ -62,7 +63,7 @@ loop-step-preserved g c =
     elim c.if-step-gt0.branch [
       | then-step-gt0 t ↦
           rw (t.first-is, t.ink-is)
-          (left_turn g.met.I.Ink.laws _ _ (left_same (some_left _ _ _ _ _ w v l.first t.if-step-gt0.true) l.invariant.1) t.put_line.ensures)
+          (left_turn g.met.I.Ink.laws _ _ (left_same (some_left _ _ _ _ _ w v l.first t.if-step-gt0.true) l.invariant.1) t.put.ensures)
       | else-step-gt0 t ↦ rw (t.first-is, t.ink-is) (left_same (none_left _ _ _ _ _ w v l.first (omega (arith, t.if-step-gt0.false))) l.invariant.1)
     ] in
     let z : eqb m.next a.from ≡ false = ne_eqb m.next a.from (λ q. omega (arith, w.on, l.invariant.2)) in

@@ -1,4 +1,4 @@
--- `write::keyword` meets its contract: the part is the keyword of the line's text.
+-- `write::Line::keyword` meets its contract: the part is the keyword of the line's text.
 -- Assumes nothing.
 use mathlib.Core.Path.{◌≡◌}
 use mathlib.Core.List.{List}
@@ -15,7 +15,7 @@ use Rattle.step.specs.Step.{part}
 use Rattle.step.proofs.Laws.{trim_inside}
 use Rattle.judge.proofs.Laws.{text_left}
 use Rattle.write.specs.Inner.{text_at, name_of}
-use Rattle.write.proofs.keyword.Goals as goal
+use Rattle.write.proofs.Line.keyword.Goals as goal
 
 -- the part is the keyword
 name : (f : List ℕ) (at : ℕ) (e : Ends) (k : ℕ) (p : Span) → e ≡ ends_of at (drop at f) → let t = take (e.end - at) (drop at f) in
@@ -24,17 +24,17 @@ unfolding name_of
 name f at e k p q r s = rw (s, r, text_left _ _ _ q)
 
 pub slice_bounds-text-count : goal.slice_bounds-text-count
-slice_bounds-text-count c = let here = placed _ _ _ c.requires c.line_at-ends.ensures in omega (arith, here)
+slice_bounds-text-count c = let here = placed _ _ _ c.args.self.now.at_in_bounds c.line_at-ends.ensures in omega (arith, here)
 
 pub slice_bounds-text-start : goal.slice_bounds-text-start
-slice_bounds-text-start c = let here = placed _ _ _ c.requires c.line_at-ends.ensures in omega (arith, here)
+slice_bounds-text-start c = let here = placed _ _ _ c.args.self.now.at_in_bounds c.line_at-ends.ensures in omega (arith, here)
 
 pub slice_bounds-text-end : goal.slice_bounds-text-end
-slice_bounds-text-end c = let here = placed _ _ _ c.requires c.line_at-ends.ensures in omega (arith, here)
+slice_bounds-text-end c = let here = placed _ _ _ c.args.self.now.at_in_bounds c.line_at-ends.ensures in omega (arith, here)
 
 pub slice_bounds-trim-end : goal.slice_bounds-trim-end
 slice_bounds-trim-end c =
-    let t = take (c.line_at-ends.result.end - c.args.at) (drop c.args.at c.args.feed.now) in
+    let t = take (c.line_at-ends.result.end - c.args.self.now.at) (drop c.args.self.now.at c.args.self.now.feed.now) in
     let within : c.byte_at-equals.result ≤ length t = rw c.byte_at-equals.ensures (run-le _ t) in
     omega (arith, length-take c.byte_at-equals.result t)
 
@@ -47,7 +47,7 @@ slice_bounds-result-start c = let inside = trim_inside _ _ c.trim-name.ensures i
 pub slice_bounds-result-end : goal.slice_bounds-result-end
 slice_bounds-result-end c =
     let inside = trim_inside _ _ c.trim-name.ensures in
-    omega (arith, inside, length-take c.byte_at-equals.result (take (c.line_at-ends.result.end - c.args.at) (drop c.args.at c.args.feed.now)))
+    omega (arith, inside, length-take c.byte_at-equals.result (take (c.line_at-ends.result.end - c.args.self.now.at) (drop c.args.self.now.at c.args.self.now.feed.now)))
 
 pub returns : goal.returns
 returns c = name _ _ _ _ _ c.line_at-ends.ensures c.byte_at-equals.ensures c.trim-name.ensures
