@@ -35,9 +35,6 @@ module _ {A : Type 0} {after : A → List ℕ → A} {room : A → List ℕ → 
   pub left_same : {x y : A} {o p q : List ℕ} → p ≡ q → Left after room x o y p → Left after room x o y q
   left_same {x} {y} {o} e l = subst (λ (k : List ℕ). Left after room x o y k) e l
 
-  pub left_last : {x y z : A} {o p : List ℕ} → Left after room x o y p → z ≡ after y p → z ≡ after x o
-  left_last l e = e ∙ sym l.same
-
   pub left_done : Lawful after room → {x y : A} {o p : List ℕ} → Left after room x o y p → p ≡ [] → y ≡ after x o
   left_done w {y = y} l e = sym (w.put_none y) ∙ ap (after y) (sym e) ∙ sym l.same
 

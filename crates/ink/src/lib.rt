@@ -6,11 +6,13 @@ ghost use Rattle.ink.specs.Ink.{Lawful, counted, Counts, written, Fits};
 
 // What takes bytes, each behind those before it, as long as it has room.
 pub trait Ink {
+    // What it is once these bytes are put.
     ghost after: { Self → List ℕ → Self };
 
+    // It has room for these bytes.
     ghost room: { Self → List ℕ → Type 0 };
 
-    // Some bytes, behind those that were put before.
+    // Some bytes, behind those that were put before; room is asked for, since callers measure once and no part is written of what does not fit.
     fn put(&mut self, bytes: &[u8])
         requires { room self.old bytes.now }
         ensures { self.new ≡ after self.old bytes.now };

@@ -72,19 +72,19 @@ said_end m v i h = rw (drop_of_length-le v h)
 abbrev pub words_from : Manner → List ℕ → ℕ → List ℕ
 words_from m v i = said_from m i (drop i v) ++ framed m (bytes " seconds")
 
-pub words_first : (m : Manner) (v : List ℕ) (w : List ℕ) → w ≡ framed m (bytes "year ") → words_by m v ≡ w ++ words_from m v 0
+pub words_first : (m : Manner) (v : List ℕ) → words_by m v ≡ framed m (bytes "year ") ++ words_from m v 0
 unfolding words_by
-words_first m v w e = rw e
+words_first m v = refl
 
 -- the next byte's, and those after it
-pub words_turn : (m : Manner) (v : List ℕ) (i : ℕ) (k : Mark) (w : List ℕ) → i < length v → k ≡ mark_at m i (get_or v i 0) → w ≡ said_by k (get_or v i 0 ∷ [])
-    → words_from m v i ≡ w ++ words_from m v (i + 1)
-words_turn m v i k w h e q =
-    rw (q, e) (ap (λ (l : List ℕ). l ++ framed m (bytes " seconds")) (said_turn m v i h) ∙ append_assoc (said_by (mark_at m i (get_or v i 0)) (get_or v i 0 ∷ [])) (said_from m (i + 1) (drop (i + 1) v)) (framed m (bytes " seconds")))
+pub words_turn : (m : Manner) (v : List ℕ) (i : ℕ) → i < length v → words_from m v i ≡ said_by (mark_at m i (get_or v i 0)) (get_or v i 0 ∷ []) ++ words_from m v (i + 1)
+words_turn m v i h =
+    ap (λ (l : List ℕ). l ++ framed m (bytes " seconds")) (said_turn m v i h)
+    ∙ append_assoc (said_by (mark_at m i (get_or v i 0)) (get_or v i 0 ∷ [])) (said_from m (i + 1) (drop (i + 1) v)) (framed m (bytes " seconds"))
 
 -- all bytes are said
-pub words_end : (m : Manner) (v : List ℕ) (i : ℕ) (w : List ℕ) → length v ≤ i → w ≡ framed m (bytes " seconds") → words_from m v i ≡ w
-words_end m v i w h e = rw (e, said_end m v i h)
+pub words_end : (m : Manner) (v : List ℕ) (i : ℕ) → length v ≤ i → words_from m v i ≡ framed m (bytes " seconds")
+words_end m v i h = rw (said_end m v i h)
 
 -- ---- how long words are
 

@@ -187,6 +187,7 @@ fn framed(manner: Manner, frame: &[u8]) -> &[u8]
 }
 
 // All of a value's words.
+#[tactic(auto, using(crate::proofs::Laws::words_first, crate::proofs::Laws::words_turn, crate::proofs::Laws::words_end), unfolding(words::specs::Words::bytes))]
 fn put_words<I: Ink>(ink: &mut I, value: &[u8], manner: Manner)
     requires { I.room ink.old (words_by manner value.now) }
     ensures { ink.new ≡ I.after ink.old (words_by manner value.now) }
@@ -199,6 +200,7 @@ fn put_words<I: Ink>(ink: &mut I, value: &[u8], manner: Manner)
 }
 
 // A value that is right, measured first: nothing is written before it is known to fit.
+// `write::write_found` measures and writes so too: one function for both takes a trait of what can be put and a struct for each, in place of these five lines.
 #[tactic(auto, using(crate::proofs::Laws::words_few, ink::proofs::Laws::put_whole), unfolding(crate::specs::Spoken::fitted, crate::specs::Spoken::buffer_after))]
 fn say(buffer: &mut [u8], value: &[u8], manner: Manner) -> Spoken
     requires { length value.now ≤ 254 }

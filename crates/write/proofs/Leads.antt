@@ -11,7 +11,7 @@ use Rattle.words.specs.Words.{bytes}
 use Rattle.lines.specs.Text.{no_span}
 use Rattle.step.specs.declared.Step.{Step}
 use Rattle.write.specs.Plain.{word_of, comment_lead, lead_of}
-use Rattle.write.specs.Inner.{text_at, name_of, Named, leads_of, values_of, break_of, line_of}
+use Rattle.write.specs.Inner.{text_at, name_of, Named, leads_of}
 
 -- ---- one row
 
@@ -57,13 +57,5 @@ module _ (x : Step) where
     leads_blank e q = leads_one h ∙ lead_comment _ _ e false (ne_eqb _ _ q)
 
     -- any other code's keyword is the line's
-    pub leads_keyword : (f : List ℕ) (at : ℕ) (w : List ℕ) → Named f at x.code → (x.code ≡ 37 → ⊥) → (x.code ≡ 44 → ⊥) → (x.code ≡ 45 → ⊥) → w ≡ name_of (text_at f at)
-        → leads_of x ≡ w ++ bytes "="
-    leads_keyword f at w n i j k e = rw (e, n i j k) (leads_one h ∙ lead_keyword _ _ i j k)
-
--- ---- a line
-
--- the break, what stands before the values, and the values
-pub line_first : (first : Bool) (f : List ℕ) (at : ℕ) (x : Step) (b : List ℕ) → b ≡ break_of first → line_of first f at x ≡ b ++ (leads_of x ++ values_of f at x)
-unfolding line_of
-line_first first f at x b e = rw e
+    pub leads_keyword : (f : List ℕ) (at : ℕ) → Named f at x.code → (x.code ≡ 37 → ⊥) → (x.code ≡ 44 → ⊥) → (x.code ≡ 45 → ⊥) → leads_of x ≡ name_of (text_at f at) ++ bytes "="
+    leads_keyword f at n i j k = rw (n i j k) (leads_one h ∙ lead_keyword _ _ i j k)

@@ -33,9 +33,9 @@ module _ (f : List ℕ) (at : ℕ) (x : Step) where
   later_lem : drop 1 (take x.count x.spans) ≡ later
   later_lem = search (rules, between_is)
 
-  pub values_first : (w : List ℕ) → w ≡ held f at (get_or x.spans 0 no_span) → values_of f at x ≡ w ++ spaced f at later
+  pub values_first : values_of f at x ≡ held f at (get_or x.spans 0 no_span) ++ spaced f at later
   unfolding values_of
-  values_first w e = rw (e, later_lem)
+  values_first = rw later_lem
 
   pub held_next : ValuesHeld f at x → (i : ℕ) → i < length later → Held f at (get_or later i no_span)
   held_next v i h =
@@ -44,9 +44,9 @@ module _ (f : List ℕ) (at : ℕ) (x : Step) where
 
 module _ (f : List ℕ) (at : ℕ) (ps : List Span) (i : ℕ) where
   -- the next value behind a blank, and those after it
-  pub values_turn : (w : List ℕ) → i < length ps → w ≡ held f at (get_or ps i no_span) → spaced f at (drop i ps) ≡ (32 ∷ []) ++ (w ++ spaced f at (drop (i + 1) ps))
+  pub values_turn : i < length ps → spaced f at (drop i ps) ≡ (32 ∷ []) ++ (held f at (get_or ps i no_span) ++ spaced f at (drop (i + 1) ps))
   unfolding spaced
-  values_turn w h e = rw (e, drop-cons ps i no_span h, add-one i)
+  values_turn h = rw (drop-cons ps i no_span h, add-one i)
 
   pub values_end : length ps ≤ i → spaced f at (drop i ps) ≡ []
   unfolding spaced

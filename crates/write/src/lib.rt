@@ -60,7 +60,7 @@ impl Line<'_> {
     }
 
     // What stands before its values: a data line has seven, and nothing before them.
-    #[tactic(auto, using(crate::proofs::Leads::leads_none, crate::proofs::Leads::leads_start, crate::proofs::Leads::leads_stop, crate::proofs::Leads::leads_empty, crate::proofs::Leads::leads_blank), unfolding(words::specs::Words::bytes))]
+    #[tactic(auto, using(crate::proofs::Leads::leads_none, crate::proofs::Leads::leads_start, crate::proofs::Leads::leads_stop, crate::proofs::Leads::leads_empty, crate::proofs::Leads::leads_blank, crate::proofs::Leads::leads_keyword), unfolding(words::specs::Words::bytes))]
     fn put_lead<I: Ink>(&self, ink: &mut I)
         requires { I.room ink.old (leads_of self.now.step) }
         ensures { ink.new ≡ I.after ink.old (leads_of self.now.step) }
@@ -82,6 +82,7 @@ impl Line<'_> {
     }
 
     // Its values, parted by one blank.
+    #[tactic(auto, using(crate::proofs::Turns::values_first, crate::proofs::Turns::values_turn, crate::proofs::Turns::values_end, crate::proofs::Turns::held_next))]
     fn put_values<I: Ink>(&self, ink: &mut I)
         requires { I.room ink.old (values_of self.now.feed.now self.now.at self.now.step) }
         ensures { ink.new ≡ I.after ink.old (values_of self.now.feed.now self.now.at self.now.step) }
@@ -95,6 +96,7 @@ impl Line<'_> {
     }
 
     // All of it, behind an LF where it is not the first.
+    #[tactic(auto, unfolding(crate::specs::Inner::line_of))]
     fn put<I: Ink>(&self, ink: &mut I, first: bool)
         requires { I.room ink.old (line_of first self.now.feed.now self.now.at self.now.step) }
         ensures { ink.new ≡ I.after ink.old (line_of first self.now.feed.now self.now.at self.now.step) }
@@ -133,6 +135,7 @@ fn walk<I: Ink>(ink: &mut I, feed: &[u8], from: usize, form: Form)
 }
 
 // A message that is right, measured first: nothing is written before it is known to fit.
+// `spoken::say` measures and writes so too: one function for both takes a trait of what can be put and a struct for each, in place of these five lines.
 #[tactic(auto, using(crate::proofs::Fits::fitted_no, crate::proofs::Fits::fitted_whole, crate::proofs::Walks::plain_few, ink::proofs::Laws::put_whole), unfolding(crate::specs::Written::buffer_after))]
 fn write_found(buffer: &mut [u8], feed: &[u8], from: usize, form: Form) -> Written
     requires { Writable feed.now from form }
