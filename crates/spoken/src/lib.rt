@@ -1,7 +1,7 @@
 // A value in words for a voice, written into a lent buffer. Every public function answers for any bytes.
 #![tactic(auto)]
 
-ghost use Rattle.std.specs.Prelude.{◌≡◌, ◌≤◌, ◌<◌, ◌+◌, length};
+ghost use Rattle.std.specs.Prelude.{◌≡◌, ◌≤◌, length};
 ghost use Rattle.spoken.specs.Saying.{said_by, mark_at, framed, words_by};
 ghost use Rattle.spoken.specs.Way.{way_if, epoch_way, way_in, way_of};
 ghost use Rattle.spoken.specs.Spoken.{fitted, spoken_of, words_of, buffer_after};

@@ -1,9 +1,8 @@
 // A message written out in one plain form, into a lent buffer.
 #![tactic(auto)]
 
-ghost use Rattle.std.specs.Prelude.{◌≡◌, true, ◌++◌, ◌+◌, ◌≤◌, ◌<◌, length};
-ghost use Rattle.words.specs.Words.{bytes};
-ghost use Rattle.write.specs.Plain.{lead_of, plain_of};
+ghost use Rattle.std.specs.Prelude.{◌≡◌, ◌<◌, length};
+ghost use Rattle.write.specs.Plain.{plain_of};
 ghost use Rattle.write.specs.Written.{fitted, written_of, buffer_after};
 ghost use Rattle.write.specs.Inner.{Held, held, values_of, ValuesHeld, text_at, name_of, Named, leads_of, break_of, line_of, plain_from, Writable};
 
