@@ -254,9 +254,9 @@ module _ (f : List ℕ) (at : ℕ) (first : Bool) (st : State) (y : Result (Opti
       which next (Ok x) e = cc
 
   -- a line that is right
-  pub walk_on : (m : Moved) → y ≡ Ok (Some m) → (w : AtLine f at first m.next) × (step_of st w.text ≡ Ok m.step) × (m.next ≡ at + line_len (drop at f))
+  walk_right : (m : Moved) → y ≡ Ok (Some m) → (w : AtLine f at first m.next) × (step_of st w.text ≡ Ok m.step) × (m.next ≡ at + line_len (drop at f))
   unfolding moved_of
-  walk_on m p = ⊎_elim (λ w. absurd (clash (q ∙ rw w))) (λ w. which w.0 w.2 w.1 _ refl (met w.0 w.2 w.1)) (walk f at first)
+  walk_right m p = ⊎_elim (λ w. absurd (clash (q ∙ rw w))) (λ w. which w.0 w.2 w.1 _ refl (met w.0 w.2 w.1)) (walk f at first)
     where
       clash : y ≡ Ok None → ⊥
       clash e = cc
@@ -267,6 +267,12 @@ module _ (f : List ℕ) (at : ℕ) (first : Bool) (st : State) (y : Result (Opti
       which next w j (Ok x) k e =
           let z : record { step = x; next = next } ≡ m = cc in
           rw (← z) (w, k, j)
+
+  pub walk_on : (m : Moved) → y ≡ Ok (Some m) → (w : AtLine f at first m.next) × (step_of st w.text ≡ Ok m.step)
+  walk_on m p = let w = walk_right m p in (w.0, w.1)
+
+  pub walk_next : (m : Moved) → y ≡ Ok (Some m) → m.next ≡ at + line_len (drop at f)
+  walk_next m p = (walk_right m p).2
 
   -- which takes at least a byte of the feed, and has few rows
   pub step_on : (m : Moved) → y ≡ Ok (Some m) → (at < m.next) × (m.next ≤ length f) × (m.step.count ≤ 7)
@@ -355,7 +361,7 @@ module _ (f : List ℕ) (at : ℕ) (first : Bool) (st : State) (y : Result (Opti
     stopped-right m p =
         let w = walk_on f at first st y q m p in
         let e : step_of st text ≡ Ok m.step = rw (same_text m.next w.0) at w.1 in
-        rw (w.2, line_left f at ends (here_in m.next w.0) refl) (rw (goes m.next w.0, stop_of) (rw (e, stop_of)))
+        rw (walk_next f at first st y q m p, line_left f at ends (here_in m.next w.0) refl) (rw (goes m.next w.0, stop_of) (rw (e, stop_of)))
 
 -- what the end says of a message is its judgement
 pub judged-stop : (n : ℕ) (ls : List Line) (first : Bool) (st : State) (line rows : ℕ)

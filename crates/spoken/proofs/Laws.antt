@@ -1,12 +1,12 @@
 -- Laws of the definitions on values said, one a case.
 -- Assumes nothing.
-use mathlib.Core.Path.{◌≡◌, refl}
-use mathlib.Core.List.{List, [], ◌∷◌, ◌++◌}
+use mathlib.Core.Path.{◌≡◌, refl, ap, ◌∙◌}
+use mathlib.Core.List.{List, [], ◌∷◌, ◌++◌, append_assoc}
 use mathlib.Core.Bool.{Bool, true, false}
-use Prim.Native.Nat.{ℕ, ◌+◌, ◌-◌, ◌*◌, ◌≤◌, ◌<◌}
+use Prim.Native.Nat.{ℕ, ◌+◌, ◌*◌, ◌≤◌, ◌<◌}
 use native.Mathlib.Omega.{arith}
 use native.Mathlib.Numerals.{add-one}
-use lib.ListN.{length, get_or, take, drop, length-append, drop_of_length-le}
+use lib.ListN.{length, get_or, drop, length-append, drop_of_length-le}
 use lib.Seq.{drop-cons}
 use borrow.Author.Tests.{lt-ltb, le-ltb, ltb-true, ltb-false, eq-eqb, ne_eqb}
 use Rattle.words.specs.Words.{bytes}
@@ -57,20 +57,32 @@ no_kind c h = picks kinds _ 11 _ (omega arith)
 
 -- ---- a value's words, byte by byte
 
--- the byte at a place, as a part
-pub byte_part : (v : List ℕ) (i : ℕ) → i < length v → take (i + 1 - i) (drop i v) ≡ get_or v i 0 ∷ []
-byte_part v i h =
-    let n : i + 1 - i ≡ 1 = omega arith in
-    rw (n, drop-cons v i 0 h)
-
-pub said_turn : (m : Manner) (v : List ℕ) (i : ℕ) → i < length v
-    → said_from m i (drop i v) ≡ said_by (mark_at m i (get_or v i 0)) (take (i + 1 - i) (drop i v)) ++ said_from m (i + 1) (drop (i + 1) v)
+said_turn : (m : Manner) (v : List ℕ) (i : ℕ) → i < length v
+    → said_from m i (drop i v) ≡ said_by (mark_at m i (get_or v i 0)) (get_or v i 0 ∷ []) ++ said_from m (i + 1) (drop (i + 1) v)
 unfolding said_from
-said_turn m v i h = rw (byte_part v i h, drop-cons v i 0 h, add-one i)
+said_turn m v i h = rw (drop-cons v i 0 h, add-one i)
 
-pub said-end : (m : Manner) (v : List ℕ) (i : ℕ) → length v ≤ i → said_from m i (drop i v) ≡ []
+said_end : (m : Manner) (v : List ℕ) (i : ℕ) → length v ≤ i → said_from m i (drop i v) ≡ []
 unfolding said_from
-said-end m v i h = rw (drop_of_length-le v h)
+said_end m v i h = rw (drop_of_length-le v h)
+
+-- the words of the bytes from a place on, and those behind them
+abbrev pub words_from : Manner → List ℕ → ℕ → List ℕ
+words_from m v i = said_from m i (drop i v) ++ framed m (bytes " seconds")
+
+pub words_first : (m : Manner) (v : List ℕ) → words_by m v ≡ framed m (bytes "year ") ++ words_from m v 0
+unfolding words_by
+words_first m v = refl
+
+-- the next byte's, and those after it
+pub words_turn : (m : Manner) (v : List ℕ) (i : ℕ) → i < length v → words_from m v i ≡ said_by (mark_at m i (get_or v i 0)) (get_or v i 0 ∷ []) ++ words_from m v (i + 1)
+words_turn m v i h =
+    ap (λ (l : List ℕ). l ++ framed m (bytes " seconds")) (said_turn m v i h)
+    ∙ append_assoc (said_by (mark_at m i (get_or v i 0)) (get_or v i 0 ∷ [])) (said_from m (i + 1) (drop (i + 1) v)) (framed m (bytes " seconds"))
+
+-- all bytes are said
+pub words_end : (m : Manner) (v : List ℕ) (i : ℕ) → length v ≤ i → words_from m v i ≡ framed m (bytes " seconds")
+words_end m v i h = rw (said_end m v i h)
 
 -- ---- how long words are
 

@@ -92,7 +92,7 @@ assigned f w c = go (code_in keywords w) refl
         let x = never f in
         record { word = word_of_code w c (k ∙ ap Some z); other = (no 37 x.0, no 44 x.1, no 45 x.2); field = no_field f c a })
         (λ q e. cc)
-    go None k e = cc
+    go None k = λ e. cc
 
 -- ---- a line that is right
 
