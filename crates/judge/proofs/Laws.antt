@@ -7,12 +7,11 @@ use mathlib.Core.Bool.{Bool, true, false, not, ◌&&◌, false≢true}
 use Prim.Native.Nat.{ℕ, ◌+◌, ◌-◌, ◌≤◌, ◌<◌}
 use native.Mathlib.Omega.{arith}
 use lib.Dec.{ltb}
-use lib.ListN.{length, take, drop, length-take, length-drop, drop_of_length-le}
-use lib.Seq.{drop-drop}
+use lib.ListN.{length, take, drop, length-take, length-drop}
 use borrow.Author.Tests.{eq-eqb, ne_eqb, lt-ltb, le-ltb, ltb-true, ltb-false}
 use Rattle.lines.specs.declared.Ends.{Ends}
 use Rattle.lines.specs.Feed.{Line, lines, lines_at, text_len, line_len, ends_of}
-use Rattle.lines.proofs.Lists.{lines_next, lines_end, placed}
+use Rattle.lines.proofs.Lists.{none_left, text_left, line_left, placed}
 use Rattle.lines.specs.declared.Form.{Form}
 use Rattle.step.specs.Step.{fresh_state, step_of}
 use Rattle.step.specs.declared.State.{State}
@@ -32,20 +31,17 @@ use Rattle.judge.specs.Message.{is_heading, form_of, from_heading, headings, up_
 -- ---- past the feed's end
 
 module _ (f : List ℕ) (at : ℕ) (h : length f ≤ at) where
-  pub none_left : lines_at at (drop at f) ≡ []
-  none_left = rw (drop_of_length-le f h) (lines_end at)
-
   pub over_headings : headings (lines_at at (drop at f)) ≡ 0
   unfolding headings
-  over_headings = rw none_left
+  over_headings = rw (none_left f at h)
 
   pub over_from : (k : ℕ) → from_heading k (lines_at at (drop at f)) ≡ []
   unfolding from_heading
-  over_from k = rw none_left
+  over_from k = rw (none_left f at h)
 
   pub over_up : (first : Bool) → up_to first (lines_at at (drop at f)) ≡ []
   unfolding up_to
-  over_up first = rw none_left
+  over_up first = rw (none_left f at h)
 
 -- ---- the line at a place
 
@@ -56,18 +52,6 @@ line_at f at e = record { start = at; text = take (e.end - at) (drop at f) }
 -- the lines from the next place on
 abbrev pub rest : List ℕ → Ends → List Line
 rest f e = lines_at e.next (drop e.next f)
-
-pub text_left : (at : ℕ) (s : List ℕ) (e : Ends) → e ≡ ends_of at s → take (e.end - at) s ≡ take (text_len s) s
-unfolding ends_of
-text_left at s e q =
-    let d : at + text_len s - at ≡ text_len s = omega arith in
-    rw (q, d)
-
-pub line_left : (f : List ℕ) (at : ℕ) (e : Ends) → at < length f → e ≡ ends_of at (drop at f) → lines_at at (drop at f) ≡ line_at f at e ∷ rest f e
-unfolding ends_of
-line_left f at e h q =
-    let s = drop at f in
-    lines_next at s (omega (arith, length-drop at f)) ∙ rw (text_left at s e q, q, drop-drop (line_len s) at f)
 
 module _ (f : List ℕ) (at : ℕ) (e : Ends) (h : at < length f) (q : e ≡ ends_of at (drop at f)) where
   -- ---- heading lines counted
