@@ -319,3 +319,9 @@ module _ (f : List ℕ) (P : ℕ → List Line → Type 0) (none : P (length f) 
 
   pub by_lines : P 0 (lines f)
   by_lines = by_lines_to (length f) 0 f (omega arith) (omega arith) refl
+
+-- a feed has no more lines than bytes
+pub lines_few : (f : List ℕ) → length (lines f) ≤ length f
+lines_few f =
+    let few = by_lines f (λ at ls. at + length ls ≤ length f) (omega arith) (λ at s ls e h i. let some = len_some s h in omega (arith, some, i)) in
+    omega (arith, few)
