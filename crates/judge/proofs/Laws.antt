@@ -26,7 +26,8 @@ use Rattle.judge.specs.declared.Refusal.{Refusal}
 use Rattle.step.proofs.Sound.{spans}
 use Rattle.lines.specs.Text.{heading_of}
 use Rattle.lines.specs.declared.Form.TheVariants.{Opm}
-use Rattle.std.specs.List.{filter, filter_map, cons_option, slice_get}
+use Rattle.std.proofs.lemmas.List.Recursion.{is_count_by}
+use Rattle.std.specs.List.{count_by, filter_map, cons_option, slice_get}
 use Rattle.std.specs.Prelude.{cond, Option, Some, None, is_some, unwrap_or, option_map, Result, Ok, Err, IsOk}
 use Rattle.judge.specs.Message.{is_heading, form_of, from_heading, headings, up_to, texts, end_of, judge_texts, judge_lines, message_of, judge_of, feed_limit, moved_to, moved_of, stop_of, stop_lines, walk_of, judged_by, refused, SureNext, found_of, opened_by, FoundIs, Sought, Unfound, sighted_of, SightedIs, rows_from, rows_lines, rows_of}
 
@@ -71,17 +72,14 @@ from_none (l ∷ ls) = go (is_heading l.text) (from_none ls)
 
 -- ---- heading lines counted, and the one with a number found
 
-pub headings_filtered : (ls : List Line) → length (filter (λ (l : Line). is_heading l.text) ls) ≡ headings ls
+-- in std's words
+pub headings_counted : (ls : List Line) → headings ls ≡ count_by (λ (l : Line). is_heading l.text) ls
 unfolding headings
-headings_filtered [] = refl
-headings_filtered (l ∷ ls) = go (is_heading l.text) (headings_filtered ls)
+headings_counted = is_count_by headings (λ (l : Line). is_heading l.text) refl (λ l ls. go (is_heading l.text) (headings ls))
   where
-    passed : List Line
-    passed = filter (λ (l : Line). is_heading l.text) ls
-
-    go : (t : Bool) → length passed ≡ headings ls → length (cond t (l ∷ passed) passed) ≡ elim t [ true ↦ headings ls + 1 | false ↦ headings ls ]
-    go true i = omega (arith, i)
-    go false i = i
+    go : (t : Bool) (n : ℕ) → elim t [ true ↦ n + 1 | false ↦ n ] ≡ cond t (1 + n) n
+    go true n = omega arith
+    go false n = refl
 
 pub found_none : (k : ℕ) (ls : List Line) → k < 1 → None ≡ found_of (from_heading k ls)
 unfolding found_of

@@ -95,6 +95,7 @@ pub fn find_message(feed: &[u8], message: usize) -> Option<Found>
 }
 
 // How many heading lines a feed has.
+#[tactic(auto, using(lines::proofs::Lists::lines_few))]
 fn headings_in(feed: &[u8]) -> u32
     requires { length feed.now ≤ feed_limit }
     ensures { result ≡ headings (lines feed.now) }
