@@ -2,12 +2,11 @@
 // Each line is written back with its place and its answer, so that the stored output reads as a table.
 #![tactic(auto)]
 
-ghost use Rattle.std.specs.Prelude.{◌≤◌, length, IfOk};
-
 use grammar::Kind;
 use lines::{Form, Span};
+use reading::read_full;
 use std::io;
-use std::io::{Read, Write};
+use std::io::Write;
 
 fn say_none(out: &mut impl Write) -> io::Result<()> {
     out.write_all(b" none")
@@ -165,21 +164,6 @@ fn say_lines(out: &mut impl Write, feed: &[u8]) -> io::Result<()> {
 
 // What is read of standard input, at the most.
 const SPACE: usize = 65536;
-
-// Fills the space until it is full or the input ends, and answers how many bytes are there.
-fn read_full(reader: &mut impl Read, space: &mut [u8]) -> io::Result<usize>
-    ensures { IfOk result (λ n. n ≤ length space.new) }
-{
-    let mut done = 0;
-    while done < space.len() {
-        let n = reader.read(&mut space[done..])?;
-        if n == 0 {
-            return Ok(done);
-        }
-        done += n;
-    }
-    Ok(done)
-}
 
 fn main(rt: HostRuntime) -> io::Result<()> {
     let mut space = [0; SPACE];

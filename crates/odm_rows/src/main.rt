@@ -1,13 +1,14 @@
 // Reads a feed from standard input and prints its messages' rows, in plain words, one fact a line.
 #![tactic(auto)]
 
-ghost use Rattle.std.specs.Prelude.{◌≡◌, ◌≤◌, length, IfOk};
+ghost use Rattle.std.specs.Prelude.{◌≡◌, length};
 
 use desk::{Desk, RowNumber, Ticket};
 use judge::{Refusal, Row};
 use reasons::Reason;
+use reading::read_full;
 use std::io;
-use std::io::{Read, Write};
+use std::io::Write;
 
 // The value's bytes are the feed's own, and no text, so that they are written as they stand.
 fn say_value(out: &mut impl Write, value: &[u8]) -> io::Result<()> {
@@ -106,21 +107,6 @@ fn table_space() -> [u8; 320000]
 
 // What is read of standard input, at the most: a byte more than a feed may have.
 const SPACE: usize = 65536;
-
-// Fills the space until it is full or the input ends, and answers how many bytes are there.
-fn read_full(reader: &mut impl Read, space: &mut [u8]) -> io::Result<usize>
-    ensures { IfOk result (λ n. n ≤ length space.new) }
-{
-    let mut done = 0;
-    while done < space.len() {
-        let n = reader.read(&mut space[done..])?;
-        if n == 0 {
-            return Ok(done);
-        }
-        done += n;
-    }
-    Ok(done)
-}
 
 fn main(rt: HostRuntime) -> io::Result<()> {
     let mut space = [0; SPACE];
