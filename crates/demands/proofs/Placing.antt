@@ -21,7 +21,7 @@ use Rattle.rows.proofs.Fills.{no_room, room_enough, room-right}
 use Rattle.desk.proofs.Reading.{place_spent, place_answer, read_gone}
 use Rattle.demands.proofs.Why.{refused_same, judging-plain}
 use Rattle.demands.specs.Placing.{ticket, RefusedKeeps, SpentKeeps, Host, Call, judging, placing, placed_for, after, EarlierGone, placings, PreviewKeeps, AsJudged, PlacingJudges, PlacingFills}
-use Rattle.std.specs.Prelude.{Result, Ok}
+use Rattle.std.specs.Prelude.{Result, Ok, Err}
 use Rattle.judge.specs.declared.Refusal.{Refusal}
 
 module _ (d : Desk) (f : List ℕ) (k bytes : ℕ) where
@@ -46,7 +46,7 @@ spent_keeps d f k t e = (rw (place_spent d f k (length t) e), place_spent d f k 
 
 one_higher : (d : Desk) (j : Result ℕ Refusal) → d.load.0 < (desk_after d j).load.0
 unfolding desk_after
-one_higher d (refused r l) = omega arith
+one_higher d (Err e) = omega arith
 one_higher d (Ok n) = omega arith
 
 -- no placing lowers the number, and one that is not refused as spent raises it
@@ -94,7 +94,7 @@ placing_fills d f k t n e =
     ((room-right (length t) (judge_of f k) n (sym e ∙ answer_free d f k (length t) h)).0, desk_free d f k (length t) h _ e, rw e)
 
 -- two acceptances that are the same
-rows_same : {m n : ℕ} → Ok m ≡ Ok n → m ≡ n
+rows_same : {m n : ℕ} → ◌≡◌ {A = Result ℕ Refusal} (Ok m) (Ok n) → m ≡ n
 rows_same e = cc
 
 module _ (d : Desk) (f : List ℕ) (k bytes : ℕ) where
@@ -146,7 +146,7 @@ pub placing_judges : PlacingJudges
 placing_judges d f k t = go (eqb d.load.0 top_load) refl
   where
     free : (d.load.0 ≡ top_load → ⊥) → (j : Result ℕ Refusal) → judge_of f k ≡ j → AsJudged d f k (length t)
-    free h (refused r l) q = as_refused d f k (length t) h r l q
+    free h (Err e) q = as_refused d f k (length t) h e.reason e.line q
     free h (Ok n) q = as_accepted d f k (length t) h n q
 
     go : (b : Bool) → eqb d.load.0 top_load ≡ b → AsJudged d f k (length t)

@@ -31,7 +31,8 @@ use Rattle.rows.specs.Filled.{room_for}
 use Rattle.demands.proofs.Listed.{codes_packed, codes_exactly, codes_rising}
 use Rattle.demands.specs.Placing.{JudgingPlain}
 use Rattle.demands.specs.Why.{SameReason, state_after, form_in, state_before, listed_in, ListedExactly, no_line, start_or, InTheLine, Rising, InOrder}
-use Rattle.std.specs.Prelude.{Result, Ok, Err, ⊤}
+use Rattle.step.specs.declared.Step.{Step}
+use Rattle.std.specs.Prelude.{Result, Ok, Err}
 use Rattle.judge.specs.declared.Refusal.{Refusal}
 
 nil-cons : {A : Type 0} {x : A} {xs : List A} → [] ≡ x ∷ xs → ⊥
@@ -56,20 +57,24 @@ ended_way st e line rows = go (next_of st.form st.last).end
     go false = short line (omega arith) refl
 
 module _ (st : State) (e line : ℕ) (l : Line) (ms : List Line) where
-  on_way : (step_of st l.text).verdict ≡ Ok tt → {y : Explained} → Way e (step_of st l.text).state (line + 1) ms y → Way e st line (l ∷ ms) y
+  on_way : (x : Step) → step_of st l.text ≡ Ok x → {y : Explained} → Way e x.state (line + 1) ms y → Way e st line (l ∷ ms) y
   unfolding state_after
-  on_way v (accepted m) = accepted m
-  on_way v (short n q h) = short n (omega arith) (h ∙ form_kept st l.text v)
-  on_way v (blame i n r q b o h) = blame (suc i) n r (omega arith) (omega arith) o (h ∙ form_kept st l.text v)
+  on_way x v (accepted m) = accepted m
+  on_way x v (short n q h) =
+      let same : state_after st (texts (l ∷ ms)) ≡ state_after x.state (texts ms) = rw (v, state_after) in
+      rw (← same) (short n (omega arith) (rw same (h ∙ form_kept st l.text x v)))
+  on_way x v (blame i n r q b o h) =
+      let same : state_after st (take (suc i) (texts (l ∷ ms))) ≡ state_after x.state (take i (texts ms)) = rw (v, state_after) in
+      rw (← same) (blame (suc i) n r (omega arith) (omega arith) o (rw same (h ∙ form_kept st l.text x v)))
 
-  line_way : (y : Explained) → Way e (step_of st l.text).state (line + 1) ms y
-      → Way e st line (l ∷ ms) (elim (step_of st l.text).verdict [ Err r ↦ blamed st line l r | Ok tt ↦ y ])
+  line_way : (rest : Step → Explained) → ((x : Step) → Way e x.state (line + 1) ms (rest x))
+      → Way e st line (l ∷ ms) (elim (step_of st l.text) [ Err r ↦ blamed st line l r | Ok x ↦ rest x ])
   unfolding state_after
-  line_way y w = go (step_of st l.text).verdict refl
+  line_way rest w = go (step_of st l.text) refl
     where
-      go : (v : Result ⊤ Reason) → (step_of st l.text).verdict ≡ v → Way e st line (l ∷ ms) (elim v [ Err r ↦ blamed st line l r | Ok tt ↦ y ])
+      go : (y : Result Step Reason) → step_of st l.text ≡ y → Way e st line (l ∷ ms) (elim y [ Err r ↦ blamed st line l r | Ok x ↦ rest x ])
       go (Err r) q = blame 0 line r (omega arith) (omega arith) (of_line st l.text r q) refl
-      go (Ok tt) q = on_way q w
+      go (Ok x) q = on_way x q (w x)
 
 -- where a message ends
 unfoldable end_in : ℕ → Bool → List Line → ℕ
@@ -81,11 +86,11 @@ way : (n : ℕ) (ls : List Line) (first : Bool) (st : State) (line rows : ℕ)
 unfolding end_in up_to explain_from
 way n [] first st line rows = ended_way st n line rows
 way n (l ∷ ls) first st line rows =
-    let x = step_of st l.text in
-    go (not first && is_heading l.text) (line_way st (end_in n false ls) line l (up_to false ls) _ (way n ls false x.state (line + 1) (rows + x.count)))
+    go (not first && is_heading l.text)
+    (line_way st (end_in n false ls) line l (up_to false ls) (λ x. explain_from n false x.state (line + 1) (rows + x.count) ls) (λ x. way n ls false x.state (line + 1) (rows + x.count)))
   where
-    go : (t : Bool) → let x = step_of st l.text in
-        let y : Explained = elim x.verdict [ Err r ↦ blamed st line l r | Ok tt ↦ explain_from n false x.state (line + 1) (rows + x.count) ls ] in
+    go : (t : Bool)
+        → let y : Explained = elim (step_of st l.text) [ Err r ↦ blamed st line l r | Ok x ↦ explain_from n false x.state (line + 1) (rows + x.count) ls ] in
         Way (end_in n false ls) st line (l ∷ up_to false ls) y
         → Way (elim t [ true ↦ l.start | false ↦ end_in n false ls ]) st line (elim t [ true ↦ [] | false ↦ l ∷ up_to false ls ]) (elim t [ true ↦ ended st l.start line rows | false ↦ y ])
     go true w = ended_way st l.start line rows
@@ -154,35 +159,19 @@ end-judged st n line rows = go (next_of st.form st.last).end
     go true = refl
     go false = refl
 
-module _ (n : ℕ) (st : State) (line rows : ℕ) (l : Line) (ls : List Line) where
-  abbrev later : Explained
-  later = let x = step_of st l.text in explain_from n false x.state (line + 1) (rows + x.count) ls
-
-  abbrev judged_later : Result ℕ Refusal
-  judged_later = let x = step_of st l.text in judge_texts x.state (line + 1) (rows + x.count) (texts (up_to false ls))
-
-  line-judged : later.judged ≡ judged_later → (v : Result ⊤ Reason)
-      → (elim v as (λ z. Explained) [ Err r ↦ blamed st line l r | Ok tt ↦ later ]).judged ≡ elim v [ Err r ↦ refused r line | Ok tt ↦ judged_later ]
-  unfolding blamed
-  line-judged h (Err r) = refl
-  line-judged h (Ok tt) = h
-
 judged_from : (n : ℕ) (ls : List Line) (first : Bool) (st : State) (line rows : ℕ)
     → (explain_from n first st line rows ls).judged ≡ judge_texts st line rows (texts (up_to first ls))
-unfolding explain_from up_to judge_texts
+unfolding explain_from up_to judge_texts blamed
 judged_from n [] first st line rows = end-judged st n line rows
 judged_from n (l ∷ ls) first st line rows =
-    let x = step_of st l.text in
-    go (not first && is_heading l.text) (judged_from n ls false x.state (line + 1) (rows + x.count))
+    go (not first && is_heading l.text) refl (step_of st l.text) refl (λ st' line' rows'. judged_from n ls false st' line' rows')
   where
-    go : (t : Bool) → (later n st line rows l ls).judged ≡ judged_later n st line rows l ls
-        → (elim t as (λ z. Explained) [
-          | true ↦ ended st l.start line rows
-          | false ↦ elim (step_of st l.text).verdict [ Err r ↦ blamed st line l r | Ok tt ↦ later n st line rows l ls ]
-        ]).judged
-        ≡ judge_texts st line rows (texts (elim t [ true ↦ [] | false ↦ l ∷ up_to false ls ]))
-    go true h = end-judged st l.start line rows
-    go false h = line-judged n st line rows l ls h (step_of st l.text).verdict
+    go : (t : Bool) → not first && is_heading l.text ≡ t → (y : Result Step Reason) → step_of st l.text ≡ y
+        → ((st' : State) (line' rows' : ℕ) → (explain_from n false st' line' rows' ls).judged ≡ judge_texts st' line' rows' (texts (up_to false ls)))
+        → (explain_from n first st line rows (l ∷ ls)).judged ≡ judge_texts st line rows (texts (up_to first (l ∷ ls)))
+    go true z y k ih = rw (z, explain_from, up_to) (end-judged st l.start line rows)
+    go false z (Err r) k ih = rw (z, explain_from, up_to) (rw (k, explain_from, judge_texts))
+    go false z (Ok x) k ih = rw (z, explain_from, up_to) (rw (k, explain_from, judge_texts) (ih x.state (line + 1) (rows + x.count)))
 
 judged_same : (f : List ℕ) (k : ℕ) → (explain_of f k).judged ≡ judge_of f k
 unfolding explain_of judge_of explain_lines judge_lines message_of up_to
@@ -202,7 +191,7 @@ judged_same f k = go (ltb feed_limit (length f))
 
 room_stays : (bytes : ℕ) (j : Result ℕ Refusal) → ((n : ℕ) → j ≡ Ok n → host_row * n ≤ bytes) → room_for bytes j ≡ j
 unfolding room_for
-room_stays bytes (refused r l) h = refl
+room_stays bytes (Err e) h = refl
 room_stays bytes (Ok n) h = rw (le-ltb _ _ (h n refl), room_for)
 
 pub same_reason : SameReason
@@ -220,7 +209,9 @@ codes_other st r e = rw (ne_eqb _ _ e, codes_for)
 
 -- two refusals that are the same
 pub refused_same : {q r : Reason} {m n : ℕ} → refused q m ≡ refused r n → (q ≡ r) × (m ≡ n)
-refused_same e = (cc, cc)
+refused_same {q} {r} {m} {n} e =
+    let z : ◌≡◌ {A = Refusal} (record { reason = q; line = m }) (record { reason = r; line = n }) = cc in
+    (ap (λ (x : Refusal). x.reason) z, ap (λ (x : Refusal). x.line) z)
 
 module _ (f : List ℕ) (k : ℕ) where
   abbrev ms : List Line

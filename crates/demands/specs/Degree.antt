@@ -1,10 +1,10 @@
 -- Degree missing, by document 02, (iv), settled on the definitions themselves: in any state, and on messages.
 -- Assumes nothing.
-use Rattle.std.specs.Prelude.{ℕ, ◌≡◌, List, [], ◌++◌, Ok}
+use Rattle.std.specs.Prelude.{ℕ, ◌≡◌, List, [], ◌++◌, Ok, Err}
 use Rattle.words.specs.Words.{bytes}
 use Rattle.lines.specs.declared.Sides.{Sides}
 use Rattle.lines.specs.declared.Form.TheVariants.{Oem}
-use Rattle.step.specs.Step.{wrong, part, assign_of, meta_of}
+use Rattle.step.specs.Step.{part, assign_of, meta_of}
 use Rattle.step.specs.declared.State.{State}
 use Rattle.reasons.specs.declared.Reason.TheVariants as Reasons
 use Rattle.judge.specs.Message.{judge_of, refused}
@@ -36,8 +36,8 @@ remark = bytes "COMMENT\n"
 abbrev pub Tied : Type 0
 Tied =
     ((st : State) (x : Sides) (s : List ℕ) → st.form ≡ Oem → part x.keyword s ≡ bytes "INTERPOLATION_DEGREE" → (st.last ≡ 42 → ⊥)
-    → assign_of st x s ≡ wrong st Reasons.Order)
-    × ((st : State) (n : ℕ) → st.form ≡ Oem → st.last ≡ 42 → meta_of st 44 n ≡ wrong st Reasons.Order)
+    → assign_of st x s ≡ Err Reasons.Order)
+    × ((st : State) (n : ℕ) → st.form ≡ Oem → st.last ≡ 42 → meta_of st 44 n ≡ Err Reasons.Order)
 
 -- both or neither stand
 abbrev pub Standing : Type 0

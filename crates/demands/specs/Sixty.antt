@@ -1,13 +1,13 @@
 -- Second 60, by document 02, (ii), settled on the definitions themselves: on epochs, on states, and on messages of both types.
 -- Assumes nothing.
-use Rattle.std.specs.Prelude.{ℕ, ◌≡◌, Bool, true, false, List, ◌++◌, eqb, get_or, Option, Some, None, Ok}
+use Rattle.std.specs.Prelude.{ℕ, ◌≡◌, Bool, true, false, List, ◌++◌, eqb, get_or, Option, Some, None, Ok, Err}
 use Prim.Native.String.{String}
 use Rattle.words.specs.Words.{bytes, is_word}
 use Rattle.lines.specs.Text.{no_span}
 use Rattle.lines.specs.declared.Span.{Span}
 use Rattle.lines.specs.declared.Fields.{Fields}
 use Rattle.epochs.specs.Epoch.{epoch_of, is_before}
-use Rattle.step.specs.Step.{wrong, fits_here, part, data_of, past_whole, time_of}
+use Rattle.step.specs.Step.{fits_here, part, data_of, past_whole, time_of}
 use Rattle.step.specs.declared.State.{State}
 use Rattle.reasons.specs.declared.Reason.TheVariants as Reasons
 use Rattle.judge.specs.Message.{judge_of, refused}
@@ -111,9 +111,9 @@ InOrder =
 abbrev pub InAnyState : Type 0
 InAnyState =
     ((st : State) (v : List ℕ) → (past_whole st 8 v).utc ≡ is_word (bytes "UTC") v)
-    × ((st : State) (c : ℕ) (p : Span) (s : List ℕ) → eqb c 2 ≡ false → st.utc ≡ false → part p s ≡ bytes sixty → time_of st c p s ≡ wrong st Reasons.Value)
+    × ((st : State) (c : ℕ) (p : Span) (s : List ℕ) → eqb c 2 ≡ false → st.utc ≡ false → part p s ≡ bytes sixty → time_of st c p s ≡ Err Reasons.Value)
     × ((st : State) (f : Fields) (s : List ℕ) → fits_here st 9 ≡ true → st.utc ≡ false → part (get_or f.spans 0 no_span) s ≡ bytes sixty
-    → data_of st f s ≡ wrong st Reasons.Value)
+    → data_of st f s ≡ Err Reasons.Value)
 
 -- "for CREATION_DATE always and for the other epochs where the message or segment has TIME_SYSTEM exactly `UTC`"
 abbrev pub Standing : Type 0

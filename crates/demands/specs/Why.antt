@@ -1,6 +1,6 @@
 -- Why a message was refused, by document 02, (vii): what is true of the explanation.
 -- Assumes nothing.
-use Rattle.std.specs.Prelude.{ℕ, ◌+◌, ◌-◌, ◌*◌, ◌≤◌, ◌<◌, ◌≡◌, ◌⊎◌, ◌↔◌, true, length, take, get_or, replicate, Ok}
+use Rattle.std.specs.Prelude.{ℕ, ◌+◌, ◌-◌, ◌*◌, ◌≤◌, ◌<◌, ◌≡◌, ◌⊎◌, ◌↔◌, true, length, take, get_or, replicate, Ok, Err}
 use mathlib.Core.List.{List, [], ◌∷◌, ◌++◌, Memᴰ}
 use Rattle.lines.specs.Feed.{Line, lines}
 use Rattle.lines.specs.declared.Form.{Form}
@@ -25,7 +25,7 @@ SameReason = (d : Desk) (f : List ℕ) (k bytes : ℕ) → (d.load.0 ≡ top_loa
 -- the state that lines lead to, and the one before line n of message k
 unfoldable pub state_after : State → List (List ℕ) → State
 state_after st [] = st
-state_after st (t ∷ ts) = state_after (step_of st t).state ts
+state_after st (t ∷ ts) = elim (step_of st t) [ Err r ↦ state_after st ts | Ok x ↦ state_after x.state ts ]
 
 abbrev pub form_in : List Line → Form
 form_in [] = Opm

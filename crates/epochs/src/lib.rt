@@ -1,7 +1,7 @@
 // What an epoch's bytes say, in both forms, and which instant comes first. Every public function answers for any bytes.
 #![tactic(auto)]
 
-ghost use Rattle.std.specs.Prelude.{◌≡◌, ◌+◌, ◌<◌, ◌≤◌, drop};
+ghost use Rattle.std.specs.Prelude.{IfSome, ◌≡◌, ◌+◌, ◌<◌, ◌≤◌, drop};
 ghost use Rattle.epochs.specs.Epoch.{shaped, fits, digit_at, two_at, year_at, is_leap, month_days, days_before, month_day, year_day, last_second, is_clock, second_at, is_fraction, nano_at, timed_of, epoch_of, is_before};
 
 use values::{digit, only_digits};
@@ -92,29 +92,32 @@ fn days_before(leap: bool, month: usize) -> u64
     DAYS_BEFORE[month] + u64::from(leap && 2 < month)
 }
 
-// The day of the year that is a day of a month; 0, as in the definition, where there is no such day.
+// The day of the year that is a day of a month, where there is such a day.
 #[tactic(auto, unfolding(crate::specs::Epoch::month_day), using(crate::proofs::Laws::no_days))]
-fn month_day(leap: bool, month: u64, day: u64) -> u64
+fn month_day(leap: bool, month: u64, day: u64) -> Option<u64>
     ensures value { result ≡ month_day leap month day }
-    ensures small { result ≤ 366 }
+    ensures small { IfSome result (λ day. day ≤ 366) }
 {
     if day < 1 || 12 < month {
-        return 0;
+        return None;
     }
     let m = month as usize; // a u64 has no usize::from
     if month_days(leap, m) < day {
-        return 0;
+        return None;
     }
-    days_before(leap, m) + day
+    Some(days_before(leap, m) + day)
 }
 
-// A day of the year; 0, as in the definition, where there is no such day.
+// A day of the year, where there is such a day.
 #[tactic(auto, unfolding(crate::specs::Epoch::year_day))]
-fn year_day(leap: bool, day: u64) -> u64
+fn year_day(leap: bool, day: u64) -> Option<u64>
     ensures value { result ≡ year_day leap day }
-    ensures small { result ≤ 366 }
+    ensures small { IfSome result (λ day. day ≤ 366) }
 {
-    if day <= 365 + u64::from(leap) { day } else { 0 }
+    if day < 1 || 365 + u64::from(leap) < day {
+        return None;
+    }
+    Some(day)
 }
 
 // The last second of a minute: 60 at 23:59, where it may stand.
@@ -179,15 +182,13 @@ fn year_at(text: &[u8]) -> u64
 
 // The instant of a day of the year, with the clock from a place on.
 #[tactic(auto, unfolding(crate::specs::Epoch::timed_of))]
-fn timed(text: &[u8], day: u64, at: usize, sixty: bool) -> Option<Instant>
-    requires { (day ≤ 366) × (at < 40) }
+fn timed(text: &[u8], day: Option<u64>, at: usize, sixty: bool) -> Option<Instant>
+    requires { IfSome day (λ day. day ≤ 366) × (at < 40) }
     ensures { result ≡ timed_of text.now day at sixty }
 {
+    let day = day?;
     let year = year_at(text);
     if year < 1 {
-        return None;
-    }
-    if day < 1 {
         return None;
     }
     if !is_clock(text, at, sixty) {

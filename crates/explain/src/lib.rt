@@ -85,8 +85,9 @@ fn codes_of(state: State) -> Codes
 fn codes_for(state: State, reason: Reason) -> Codes
     ensures { result ≡ codes_for state reason }
 {
-    if reason == Reason::Order {
-        return codes_of(state);
+    match reason {
+        Reason::Order => codes_of(state),
+        _ => no_codes(),
     }
 }
 

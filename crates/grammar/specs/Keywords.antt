@@ -1,4 +1,4 @@
--- The keywords that a message type assigns, the kinds of their values and their units, by document 01, "Option ℕ codes and order" and "Values".
+-- The keywords that a message type assigns, the kinds of their values and their units, by document 01, "Keyword codes and order" and "Values".
 -- Assumes nothing.
 use Rattle.std.specs.Prelude.{ℕ, List, [], ◌∷◌, Bool, true, false, ◌||◌, eqb, length, Option, Some, None}
 use Rattle.words.specs.Words.{bytes, is_word}

@@ -123,12 +123,12 @@ pub is_at : (c : Bool) (x t : Instant) → elim c [ true ↦ Some x | false ↦ 
 is_at true x t e = refl
 is_at false x t e = let z : ◌≡◌ {A = ℕ} 0 1 = cc in absurd (omega arith)
 
-timed_fraction : (s : List ℕ) (day at : ℕ) (sixty : Bool) (t : Instant) → timed_of s day at sixty ≡ Some t → is_fraction (drop (at + 8) s) ≡ true
+timed_fraction : (s : List ℕ) (day : Option ℕ) (at : ℕ) (sixty : Bool) (t : Instant) → timed_of s day at sixty ≡ Some t → is_fraction (drop (at + 8) s) ≡ true
 unfolding timed_of
-timed_fraction s day at sixty t e =
-    let p = (and-eq-true_iff (leb 1 (year_at s)) (leb 1 day && (is_clock s at sixty && is_fraction (drop (at + 8) s)))).0 (is_at _ _ t e) in
-    let q = (and-eq-true_iff (leb 1 day) (is_clock s at sixty && is_fraction (drop (at + 8) s))).0 p.1 in
-    ((and-eq-true_iff (is_clock s at sixty) (is_fraction (drop (at + 8) s))).0 q.1).1
+timed_fraction s None at sixty t e = cc
+timed_fraction s (Some day) at sixty t e =
+    let p = (and-eq-true_iff (leb 1 (year_at s)) (is_clock s at sixty && is_fraction (drop (at + 8) s))).0 (is_at _ _ t e) in
+    ((and-eq-true_iff (is_clock s at sixty) (is_fraction (drop (at + 8) s))).0 p.1).1
 
 abbrev pub calendar_shape : List ℕ
 calendar_shape = bytes "0000-00-00T00:00:00"

@@ -153,15 +153,15 @@ at_more : (a b : Bool) (x t : Instant) → (a ≡ true → b ≡ true) → elim 
 at_more a true x t f e = at_true a x t e
 at_more a false x t f e = absurd (false≢true (f (is_at a x t e)))
 
-timed_sixty : (s : List ℕ) (day at : ℕ) (t : Instant) → timed_of s day at false ≡ Some t → timed_of s day at true ≡ Some t
+timed_sixty : (s : List ℕ) (day : Option ℕ) (at : ℕ) (t : Instant) → timed_of s day at false ≡ Some t → timed_of s day at true ≡ Some t
 unfolding timed_of
-timed_sixty s day at t e =
+timed_sixty s None at t e = e
+timed_sixty s (Some day) at t e =
     at_more _ _ _ t
     (λ x.
-    let p = (and-eq-true_iff (leb 1 (year_at s)) (leb 1 day && (is_clock s at false && is_fraction (drop (at + 8) s)))).0 x in
-    let q = (and-eq-true_iff (leb 1 day) (is_clock s at false && is_fraction (drop (at + 8) s))).0 p.1 in
-    let r = (and-eq-true_iff (is_clock s at false) (is_fraction (drop (at + 8) s))).0 q.1 in
-    (and-eq-true_iff _ _).1 (p.0, (and-eq-true_iff _ _).1 (q.0, (and-eq-true_iff _ _).1 (clock_sixty s at r.0, r.1))))
+    let p = (and-eq-true_iff (leb 1 (year_at s)) (is_clock s at false && is_fraction (drop (at + 8) s))).0 x in
+    let r = (and-eq-true_iff (is_clock s at false) (is_fraction (drop (at + 8) s))).0 p.1 in
+    (and-eq-true_iff _ _).1 (p.0, (and-eq-true_iff _ _).1 (clock_sixty s at r.0, r.1)))
     e
 
 epoch_sixty : (v : List ℕ) (sixty : Bool) (t : Instant) → epoch_of v sixty ≡ Some t → epoch_of v true ≡ Some t

@@ -18,7 +18,6 @@ use Rattle.odm.specs.declared.OdmExplained.{OdmExplained}
 use Rattle.reasons.specs.declared.Reason.{Reason}
 use Rattle.judge.specs.declared.Refusal.{Refusal}
 use Rattle.judge.specs.declared.Row.{Row}
-use Rattle.judge.specs.Message.{refused}
 
 abbrev pub counted_nos : Result ℕ Reason → OdmCounted
 counted_nos (Ok n) = record { reason = 0; count = n }
@@ -26,7 +25,7 @@ counted_nos (Err r) = record { reason = reason_no r; count = 0 }
 
 abbrev pub judged_nos : Result ℕ Refusal → OdmJudged
 judged_nos (Ok n) = record { reason = 0; line = 0; rows = n }
-judged_nos (refused r l) = record { reason = reason_no r; line = l; rows = 0 }
+judged_nos (Err e) = record { reason = reason_no e.reason; line = e.line; rows = 0 }
 
 -- "a desk as load number and count"
 abbrev pub desk_nos : ℕ → ℕ → Desk
@@ -48,7 +47,7 @@ row_nos (Err r) = record { reason = reason_no r; code = 0; group = 0; line = 0; 
 
 abbrev pub written_nos : Result ℕ Refusal → OdmWritten
 written_nos (Ok n) = record { reason = 0; line = 0; length = n }
-written_nos (refused r l) = record { reason = reason_no r; line = l; length = 0 }
+written_nos (Err e) = record { reason = reason_no e.reason; line = e.line; length = 0 }
 
 abbrev pub rounded_nos : Result ℤ Reason → OdmRounded
 rounded_nos (Ok z) = record { reason = 0; units = z }
@@ -60,7 +59,7 @@ spoken_nos (Err r) = record { reason = reason_no r; length = 0 }
 
 -- the reason alone
 abbrev pub resized_no : Result ⊤ Reason → ℕ
-resized_no (Ok tt) = 0
+resized_no (Ok _) = 0
 resized_no (Err r) = reason_no r
 
 -- the judgement's numbers, and beside them where and what
