@@ -158,7 +158,7 @@ impl<'a> Iterator for Lines<'a> {
 
     ghost remaining = { item_count lines_left };
 
-    // put where it is called, a line stays in registers: a call takes 1.03 of the instructions of the walk, and 1.08 over empty lines
+    // put where it is called, a line stays in registers: as a call it takes 1.03 of the instructions, and 1.08 over empty lines
     #[inline(always)]
     #[tactic(auto, using(crate::proofs::Lists::none_left, crate::proofs::Lists::line_left, crate::proofs::Lists::placed))]
     fn next(&mut self) -> Option<FeedLine<'a>> {
