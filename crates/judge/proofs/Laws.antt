@@ -4,15 +4,15 @@ use mathlib.Core.Path.{◌≡◌, refl, sym, ap, ◌∙◌}
 use mathlib.Core.List.{List, [], ◌∷◌}
 use mathlib.Core.Logic.{◌⊎◌, inl, inr, ⊎_elim}
 use mathlib.Core.Bool.{Bool, true, false, not, ◌&&◌, false≢true}
-use Prim.Native.Nat.{ℕ, ◌+◌, ◌-◌, ◌≤◌, ◌<◌}
+use Prim.Native.Nat.{ℕ, zero, suc, ◌+◌, ◌-◌, ◌≤◌, ◌<◌}
 use native.Mathlib.Omega.{arith}
-use lib.Dec.{ltb}
-use lib.ListN.{length, take, drop, length-take, length-drop, drop_of_length-le}
+use lib.Dec.{eqb, ltb}
+use lib.ListN.{length, take, drop, length-take, length-drop}
 use lib.Seq.{drop-drop}
-use borrow.Author.Tests.{eq-eqb, ne_eqb, lt-ltb, le-ltb, ltb-true, ltb-false}
+use borrow.Author.Tests.{ne_eqb, lt-ltb, le-ltb, ltb-true, ltb-false}
 use Rattle.lines.specs.declared.Ends.{Ends}
 use Rattle.lines.specs.Feed.{Line, lines, lines_at, text_len, line_len, ends_of}
-use Rattle.lines.proofs.Lists.{lines_next, lines_end, placed}
+use Rattle.lines.proofs.Lists.{none_left, text_left, line_left, lines_next, line_first, by_lines, placed}
 use Rattle.lines.specs.declared.Form.{Form}
 use Rattle.step.specs.Step.{fresh_state, step_of}
 use Rattle.step.specs.declared.State.{State}
@@ -26,26 +26,17 @@ use Rattle.judge.specs.declared.Refusal.{Refusal}
 use Rattle.step.proofs.Sound.{spans}
 use Rattle.lines.specs.Text.{heading_of}
 use Rattle.lines.specs.declared.Form.TheVariants.{Opm}
-use Rattle.std.specs.Prelude.{Option, Some, None, is_some, unwrap_or, Result, Ok, Err, IsOk}
-use Rattle.judge.specs.Message.{is_heading, form_of, from_heading, headings, up_to, texts, end_of, judge_texts, judge_lines, message_of, judge_of, feed_limit, moved_to, moved_of, stop_of, stop_lines, walk_of, judged_by, refused, SureNext, found_of, FoundIs, Sought, Unfound, sighted_of, SightedIs, rows_from, rows_lines, rows_of}
+use Rattle.std.proofs.lemmas.List.Recursion.{is_count_by}
+use Rattle.std.specs.List.{count_by, filter_map, cons_option, slice_get}
+use Rattle.std.specs.Prelude.{cond, Option, Some, None, is_some, unwrap_or, option_map, Result, Ok, Err, IsOk}
+use Rattle.judge.specs.Message.{is_heading, form_of, from_heading, headings, up_to, texts, end_of, judge_texts, judge_lines, message_of, judge_of, feed_limit, moved_to, moved_of, stop_of, stop_lines, walk_of, judged_by, refused, SureNext, found_of, opened_by, FoundIs, Sought, Unfound, sighted_of, SightedIs, rows_from, rows_lines, rows_of}
 
 -- ---- past the feed's end
 
 module _ (f : List ℕ) (at : ℕ) (h : length f ≤ at) where
-  pub none_left : lines_at at (drop at f) ≡ []
-  none_left = rw (drop_of_length-le f h) (lines_end at)
-
-  pub over_headings : headings (lines_at at (drop at f)) ≡ 0
-  unfolding headings
-  over_headings = rw none_left
-
-  pub over_from : (k : ℕ) → from_heading k (lines_at at (drop at f)) ≡ []
-  unfolding from_heading
-  over_from k = rw none_left
-
   pub over_up : (first : Bool) → up_to first (lines_at at (drop at f)) ≡ []
   unfolding up_to
-  over_up first = rw none_left
+  over_up first = rw (none_left f at h)
 
 -- ---- the line at a place
 
@@ -57,64 +48,7 @@ line_at f at e = record { start = at; text = take (e.end - at) (drop at f) }
 abbrev pub rest : List ℕ → Ends → List Line
 rest f e = lines_at e.next (drop e.next f)
 
-pub text_left : (at : ℕ) (s : List ℕ) (e : Ends) → e ≡ ends_of at s → take (e.end - at) s ≡ take (text_len s) s
-unfolding ends_of
-text_left at s e q =
-    let d : at + text_len s - at ≡ text_len s = omega arith in
-    rw (q, d)
-
-pub line_left : (f : List ℕ) (at : ℕ) (e : Ends) → at < length f → e ≡ ends_of at (drop at f) → lines_at at (drop at f) ≡ line_at f at e ∷ rest f e
-unfolding ends_of
-line_left f at e h q =
-    let s = drop at f in
-    lines_next at s (omega (arith, length-drop at f)) ∙ rw (text_left at s e q, q, drop-drop (line_len s) at f)
-
 module _ (f : List ℕ) (at : ℕ) (e : Ends) (h : at < length f) (q : e ≡ ends_of at (drop at f)) where
-  -- ---- heading lines counted
-
-  pub counted : is_heading (line_at f at e).text ≡ true → headings (lines_at at (drop at f)) ≡ headings (rest f e) + 1
-  unfolding headings
-  counted r = rw (line_left f at e h q) (rw (r, headings))
-
-  pub passed : is_heading (line_at f at e).text ≡ false → headings (lines_at at (drop at f)) ≡ headings (rest f e)
-  unfolding headings
-  passed r = rw (line_left f at e h q) (rw (r, headings))
-
-  -- ---- the heading line with a number, found
-
-  pub from_here : (k : ℕ) → is_heading (line_at f at e).text ≡ true → k ≡ 1 → from_heading k (lines_at at (drop at f)) ≡ lines_at at (drop at f)
-  unfolding from_heading
-  from_here k r one = rw (line_left f at e h q) (rw (r, from_heading) (rw (eq-eqb k 1 one)))
-
-  pub found_here : found_of (lines_at at (drop at f)) ≡ Some (record { at = at; form = form_of (line_at f at e).text })
-  unfolding found_of
-  found_here = rw (line_left f at e h q)
-
-  pub from_later : (k : ℕ) → is_heading (line_at f at e).text ≡ true → (k ≡ 1 → ⊥)
-      → from_heading k (lines_at at (drop at f)) ≡ from_heading (k - 1) (rest f e)
-  unfolding from_heading
-  from_later k r more = rw (line_left f at e h q) (rw (r, from_heading) (rw (ne_eqb k 1 more)))
-
-  pub from_passed : (k : ℕ) → is_heading (line_at f at e).text ≡ false → from_heading k (lines_at at (drop at f)) ≡ from_heading k (rest f e)
-  unfolding from_heading
-  from_passed k r = rw (line_left f at e h q) (rw (r, from_heading))
-
-  -- the same of a count that has come to j, for the heading line with the number k
-  module _ (k j : ℕ) (i : from_heading k (lines f) ≡ from_heading j (lines_at at (drop at f))) where
-    pub found_now : (form : Form) → heading_of (line_at f at e).text ≡ Some form → j ≡ 1 → Some (record { at = at; form = form }) ≡ found_of (from_heading k (lines f))
-    found_now form r one =
-        let s : form_of (line_at f at e).text ≡ form = ap (λ y. unwrap_or y Opm) r in
-        rw (← s, i, from_here j (ap is_some r) one) (sym found_here)
-
-    pub found_there : (form : Form) → heading_of (line_at f at e).text ≡ Some form → j ≡ 1 → FoundIs (Some (record { at = at; form = form })) k f
-    unfolding FoundIs
-    found_there form r one =
-        let s : form_of (line_at f at e).text ≡ form = ap (λ y. unwrap_or y Opm) r in
-        (i ∙ from_here j (ap is_some r) one, h, sym s ∙ ap form_of (text_left at (drop at f) e q))
-
-    pub found_later : (form : Form) → heading_of (line_at f at e).text ≡ Some form → (j ≡ 1 → ⊥) → from_heading k (lines f) ≡ from_heading (j - 1) (rest f e)
-    found_later form r more = i ∙ from_later j (ap is_some r) more
-
   -- ---- the lines up to the next heading line
 
   pub up_stop : (first : Bool) → not first && is_heading (line_at f at e).text ≡ true → up_to first (lines_at at (drop at f)) ≡ []
@@ -135,6 +69,72 @@ from_none (l ∷ ls) = go (is_heading l.text) (from_none ls)
     go : (t : Bool) → from_heading 0 ls ≡ [] → ◌≡◌ {A = List Line} (elim t [ true ↦ from_heading (0 - 1) ls | false ↦ from_heading 0 ls ]) []
     go true ih = ih
     go false ih = ih
+
+-- ---- heading lines counted, and the one with a number found
+
+-- in std's words
+pub headings_counted : (ls : List Line) → headings ls ≡ count_by (λ (l : Line). is_heading l.text) ls
+unfolding headings
+headings_counted = is_count_by headings (λ (l : Line). is_heading l.text) refl (λ l ls. go (is_heading l.text) (headings ls))
+  where
+    go : (t : Bool) (n : ℕ) → elim t [ true ↦ n + 1 | false ↦ n ] ≡ cond t (1 + n) n
+    go true n = omega arith
+    go false n = refl
+
+pub found_none : (k : ℕ) (ls : List Line) → k < 1 → None ≡ found_of (from_heading k ls)
+unfolding found_of
+found_none k ls h = let z : k ≡ 0 = omega arith in rw (z, from_none ls)
+
+-- behind k others
+pub found_nth : (k : ℕ) (ls : List Line) → slice_get (filter_map opened_by ls) k ≡ found_of (from_heading (k + 1) ls)
+unfolding from_heading found_of
+found_nth k [] = refl
+found_nth k (l ∷ ls) = go (heading_of l.text) refl k (λ j. found_nth j ls)
+  where
+    go : (y : Option Form) → heading_of l.text ≡ y → (k : ℕ) → ((j : ℕ) → slice_get (filter_map opened_by ls) j ≡ found_of (from_heading (j + 1) ls))
+        → slice_get (cons_option (option_map (λ form. record { at = l.start; form = form }) y) (filter_map opened_by ls)) k
+        ≡ found_of (elim (is_some y) [ true ↦ elim (eqb (k + 1) 1) [ true ↦ l ∷ ls | false ↦ from_heading (k + 1 - 1) ls ] | false ↦ from_heading (k + 1) ls ])
+    go (Some form) q zero i = ap (λ y. Some (record { at = l.start; form = unwrap_or y Opm })) (sym q)
+    go (Some form) q (suc k) i =
+        let less : suc k + 1 - 1 ≡ k + 1 = omega arith in
+        rw (ne_eqb (suc k + 1) 1 (λ e. omega arith), less) (i k)
+    go None q k i = i k
+
+module _ (f : List ℕ) where
+  -- lines of the feed, from one on
+  abbrev LinesOn : List Line → Type 0
+  LinesOn [] = Unit {0}
+  LinesOn (l ∷ ls) = (l ∷ ls ≡ lines_at l.start (drop l.start f)) × (l.start < length f) × (l.text ≡ take (text_len (drop l.start f)) (drop l.start f))
+
+  abbrev FromHeading : ℕ → List Line → Type 0
+  FromHeading at ls = (ls ≡ lines_at at (drop at f)) × ((k : ℕ) → LinesOn (from_heading k ls))
+
+  heading_none : FromHeading (length f) []
+  unfolding from_heading
+  heading_none = (sym (none_left f (length f) (omega arith)), λ k. tt)
+
+  heading_more : (at : ℕ) (s : List ℕ) (ls : List Line) → s ≡ drop at f → 0 < length s → FromHeading (at + line_len s) ls → FromHeading at (line_first at s ∷ ls)
+  unfolding from_heading
+  heading_more at s ls e h i = (whole, λ k. go k (is_heading (line_first at s).text) (eqb k 1))
+    where
+      whole : line_first at s ∷ ls ≡ lines_at at (drop at f)
+      whole =
+          ap (λ (r : List Line). line_first at s ∷ r) (i.0 ∙ ap (lines_at (at + line_len s)) (sym (ap (drop (line_len s)) e ∙ drop-drop (line_len s) at f)))
+          ∙ sym (lines_next at s h) ∙ ap (lines_at at) e
+
+      go : (k : ℕ) (t u : Bool) → LinesOn (elim t [ true ↦ elim u [ true ↦ line_first at s ∷ ls | false ↦ from_heading (k - 1) ls ] | false ↦ from_heading k ls ])
+      go k true true = (whole, omega (arith, h, ap length e, length-drop at f), ap (λ u. take (text_len u) u) e)
+      go k true false = i.1 (k - 1)
+      go k false u = i.1 k
+
+  -- what is found by a number is where the message's lines stand
+  pub found_is : (k : ℕ) (y : Option Found) → y ≡ found_of (from_heading k (lines f)) → FoundIs y k f
+  unfolding FoundIs found_of
+  found_is k y q = rw q (go (from_heading k (lines f)) refl ((by_lines f FromHeading heading_none heading_more).1 k))
+    where
+      go : (ls : List Line) → from_heading k (lines f) ≡ ls → LinesOn ls → FoundIs (found_of ls) k f
+      go [] e w = e
+      go (l ∷ ls) e w = (e ∙ w.0, w.1, ap form_of w.2)
 
 -- ---- one step of a walk along a message
 

@@ -1,6 +1,6 @@
 -- A feed's messages and their judgement, by document 01, "Feeds, lines and headings" and its table of reasons.
 -- Assumes nothing.
-use Rattle.std.specs.Prelude.{ℕ, ◌+◌, ◌-◌, ◌<◌, ◌≤◌, ◌≡◌, List, [], ◌∷◌, ◌++◌, map, Option, Some, None, is_some, unwrap_or, Result, Ok, Err, Bool, true, false, not, ◌&&◌, eqb, ltb, length, take, drop}
+use Rattle.std.specs.Prelude.{ℕ, ◌+◌, ◌-◌, ◌<◌, ◌≤◌, ◌≡◌, List, [], ◌∷◌, ◌++◌, map, Option, Some, None, is_some, unwrap_or, option_map, Result, Ok, Err, Bool, true, false, not, ◌&&◌, eqb, ltb, length, take, drop}
 use Rattle.lines.specs.Feed.{Line, lines, lines_at, text_len, line_len}
 use Rattle.lines.specs.Text.{heading_of}
 use Rattle.lines.specs.declared.Span.{Span}
@@ -133,6 +133,10 @@ SureNext sure st (l ∷ ls) = Sure sure (step_of st l.text)
 unfoldable pub found_of : List Line → Option Found
 found_of [] = None
 found_of (l ∷ ls) = Some (record { at = l.start; form = form_of l.text })
+
+-- the message that a line opens, where it is a heading line
+abbrev pub opened_by : Line → Option Found
+opened_by l = option_map (λ y. record { at = l.start; form = y }) (heading_of l.text)
 
 -- what follows from it: the message's lines are those from the place on, and its first line is a heading of this type
 unfoldable pub FoundIs : Option Found → ℕ → List ℕ → Type 0

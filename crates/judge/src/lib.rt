@@ -2,11 +2,11 @@
 #![tactic(auto)]
 
 ghost use Rattle.std.specs.Prelude.{◌≡◌, true, not, ◌&&◌, ◌≤◌, length, drop, IfOk, IfErr};
-ghost use Rattle.lines.specs.Feed.{lines, lines_at};
+ghost use Rattle.lines.specs.Feed.{lines, lines_at, line_of};
 ghost use Rattle.step.specs.Step.{fresh_state};
-ghost use Rattle.judge.specs.Message.{of_feed, is_heading, from_heading, headings, up_to, stop_of, walk_of, judged_by, judge_of, count_of, moved_of, SureNext, feed_limit, found_of, FoundIs, Sought, Unfound, sighted_of, SightedIs};
+ghost use Rattle.judge.specs.Message.{of_feed, is_heading, from_heading, headings, up_to, stop_of, walk_of, judged_by, judge_of, count_of, moved_of, SureNext, feed_limit, found_of, opened_by, FoundIs, Sought, Unfound, sighted_of, SightedIs};
 
-use lines::Form;
+use lines::{FeedLine, Form};
 use reasons::Reason;
 use step::{State, Step};
 
@@ -76,45 +76,33 @@ fn is_heading(text: &[u8]) -> bool
     lines::heading_of(text).is_some()
 }
 
+// The message that a line opens, where it is a heading line.
+fn opened_by(line: FeedLine<'_>) -> Option<Found>
+    ensures { result ≡ opened_by (line_of line.entry) }
+{
+    let form = lines::heading_of(line.text)?;
+    Some(Found { at: line.at, form })
+}
+
 // The place of the heading line with this number, from 1.
-#[tactic(auto, using(crate::proofs::Laws::found_now, crate::proofs::Laws::found_there, crate::proofs::Laws::found_later, lines::proofs::Lists::placed))]
+#[tactic(auto, using(crate::proofs::Laws::found_none, crate::proofs::Laws::found_is))]
 pub fn find_message(feed: &[u8], message: usize) -> Option<Found>
     ensures answer { result ≡ found_of (from_heading message (lines feed.now)) }
     ensures lines { FoundIs result message feed.now }
 {
-    if message == 0 {
-        return None;
-    }
-    let mut left = message;
-    let mut at = 0;
-    while at < feed.len() {
-        let ends = lines::line_at(feed, at);
-        if let Some(form) = lines::heading_of(&feed[at..ends.end]) {
-            if left == 1 {
-                return Some(Found { at, form });
-            }
-            left -= 1;
-        }
-        at = ends.next;
-    }
-    None
+    let before = message.checked_sub(1)?;
+    lines::lines_of(feed).filter_map(opened_by).nth(before)
 }
 
 // How many heading lines a feed has.
+#[tactic(auto, using(lines::proofs::Lists::lines_few))]
 fn headings_in(feed: &[u8]) -> u32
     requires { length feed.now ≤ feed_limit }
     ensures { result ≡ headings (lines feed.now) }
 {
-    let mut n: u32 = 0;
-    let mut at = 0;
-    while at < feed.len() {
-        let ends = lines::line_at(feed, at);
-        if is_heading(&feed[at..ends.end]) {
-            n += 1;
-        }
-        at = ends.next;
-    }
-    n
+    lines::lines_of(feed)
+        .filter(|line| is_heading(line.text))
+        .count() as u32
 }
 
 // How many messages a feed has.

@@ -3,7 +3,7 @@
 #![tactic(auto)]
 
 use grammar::Kind;
-use lines::{Form, Span};
+use lines::{FeedLine, Form, Span};
 use reading::read_full;
 use std::io;
 use std::io::Write;
@@ -140,24 +140,19 @@ fn say_answer(out: &mut impl Write, leaf: u8, text: &[u8]) -> io::Result<()> {
 }
 
 // One line of the table: its place, its text between bars, and the answer.
-fn say_line(out: &mut impl Write, from: usize, text: &[u8]) -> io::Result<()> {
-    write!(out, "{from} |")?;
-    out.write_all(text)?;
+fn say_line(out: &mut impl Write, line: FeedLine<'_>) -> io::Result<()> {
+    write!(out, "{} |", line.at)?;
+    out.write_all(line.text)?;
     out.write_all(b"|")?;
-    if let [leaf, _, asked @ ..] = text {
+    if let [leaf, _, asked @ ..] = line.text {
         say_answer(out, *leaf, asked)?;
     }
     out.write_all(b"\n")
 }
 
-#[tactic(auto, using(lines::proofs::Lists::placed))]
 fn say_lines(out: &mut impl Write, feed: &[u8]) -> io::Result<()> {
-    let mut at = 0;
-    while at < feed.len() {
-        let ends = lines::line_at(feed, at);
-        let end = ends.end;
-        say_line(out, at, &feed[at..end])?;
-        at = ends.next;
+    for line in lines::lines_of(feed) {
+        say_line(out, line)?;
     }
     Ok(())
 }

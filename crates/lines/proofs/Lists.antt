@@ -10,7 +10,7 @@ use native.Mathlib.Nat.{not-suc-le-zero}
 use native.Mathlib.Numerals.{add-one}
 use native.Mathlib.Omega.{arith}
 use lib.Dec.{eqb}
-use lib.ListN.{length, take, drop, length-append, length-drop}
+use lib.ListN.{length, take, drop, length-append, length-drop, drop_of_length-le}
 use lib.Seq.{drop-drop}
 use borrow.Author.Tests.{lt-ltb, le-ltb}
 use Rattle.words.specs.Words.{run}
@@ -127,6 +127,24 @@ lines_next at s h = first_line s at [] (omega arith) ∙ ap (λ (n : ℕ). line 
 pub lines_end : (at : ℕ) → lines_at at [] ≡ []
 unfolding lines_from last_line
 lines_end at = refl
+
+-- past the feed's end there are none
+pub none_left : (f : List ℕ) (at : ℕ) → length f ≤ at → lines_at at (drop at f) ≡ []
+none_left f at h = rw (drop_of_length-le f h) (lines_end at)
+
+-- a line's text as the code slices it
+pub text_left : (at : ℕ) (s : List ℕ) (e : Ends) → e ≡ ends_of at s → take (e.end - at) s ≡ take (text_len s) s
+unfolding ends_of
+text_left at s e q =
+    let d : at + text_len s - at ≡ text_len s = omega arith in
+    rw (q, d)
+
+pub line_left : (f : List ℕ) (at : ℕ) (e : Ends) → at < length f → e ≡ ends_of at (drop at f)
+    → lines_at at (drop at f) ≡ line at (take (e.end - at) (drop at f)) ∷ lines_at e.next (drop e.next f)
+unfolding ends_of
+line_left f at e h q =
+    let s = drop at f in
+    lines_next at s (omega (arith, length-drop at f)) ∙ rw (text_left at s e q, q, drop-drop (line_len s) at f)
 
 -- a line takes at least a byte
 pub len_some : (s : List ℕ) → 0 < length s → 0 < line_len s
@@ -301,3 +319,9 @@ module _ (f : List ℕ) (P : ℕ → List Line → Type 0) (none : P (length f) 
 
   pub by_lines : P 0 (lines f)
   by_lines = by_lines_to (length f) 0 f (omega arith) (omega arith) refl
+
+-- a feed has no more lines than bytes
+pub lines_few : (f : List ℕ) → length (lines f) ≤ length f
+lines_few f =
+    let few = by_lines f (λ at ls. at + length ls ≤ length f) (omega arith) (λ at s ls e h i. let some = len_some s h in omega (arith, some, i)) in
+    omega (arith, few)

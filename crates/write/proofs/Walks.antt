@@ -23,7 +23,8 @@ use Rattle.step.proofs.Sound.{Spans, spans}
 use Rattle.judge.specs.Message.{is_heading, up_to, texts, judge_texts, judge_of, FoundIs, group_of, rows_at, rows_from, rows_of}
 use Rattle.judge.specs.declared.Moved.{Moved}
 use Rattle.judge.specs.declared.Found.{Found}
-use Rattle.judge.proofs.Laws.{left, line_at, rest as rest_of, line_left, up_more, AtLine, line-text, judge_found, accepted_short, found_rows}
+use Rattle.lines.proofs.Lists.{line_left}
+use Rattle.judge.proofs.Laws.{left, line_at, rest as rest_of, up_more, AtLine, line-text, judge_found, accepted_short, found_rows}
 use Rattle.write.specs.Plain.{Item, item, item_of, comment_lead, lead_of, is_field, words_of, word_in, behind, plain, type_of, plain_of}
 use Rattle.write.specs.Inner.{Held, held, ValuesHeld, Named, line_of, items_at, items_from, written_from, plain_from, Writable}
 use Rattle.write.proofs.Readings.{either}

@@ -4,8 +4,7 @@ use mathlib.Core.Path.{sym, ap, ◌∙◌}
 use mathlib.Core.List.{List}
 use Prim.Native.Nat.{ℕ}
 use Rattle.explain.specs.Explain.{blamed, told}
-use Rattle.judge.proofs.Laws.{text_left}
-use Rattle.lines.proofs.Lists.{line_within}
+use Rattle.lines.proofs.Lists.{text_left, line_within}
 use Rattle.explain.proofs.tell.Goals as goal
 
 pub slice_bounds-blame-count : goal.slice_bounds-blame-count

@@ -10,10 +10,9 @@ use Rattle.lines.specs.Feed.{ends_of}
 use Rattle.lines.specs.Text.{equals_at, trim_of}
 use Rattle.lines.specs.declared.Ends.{Ends}
 use Rattle.lines.specs.declared.Span.{Span}
-use Rattle.lines.proofs.Lists.{placed}
+use Rattle.lines.proofs.Lists.{text_left, placed}
 use Rattle.step.specs.Step.{part}
 use Rattle.step.proofs.Laws.{trim_inside}
-use Rattle.judge.proofs.Laws.{text_left}
 use Rattle.write.specs.Inner.{text_at, name_of}
 use Rattle.write.proofs.Line.keyword.Goals as goal
 
