@@ -1,12 +1,12 @@
 -- Laws of the parts of a line that offend: what the walks found is what the definitions say, and each part lies in the text.
 -- Assumes nothing.
-use mathlib.Core.Path.{◌≡◌, refl, sym, ap, ◌∙◌}
+use mathlib.Core.Path.{◌≡◌, refl, sym, ◌∙◌}
 use mathlib.Core.List.{List, [], ◌∷◌}
 use mathlib.Core.Bool.{Bool, true, false, not}
 use Prim.Native.Nat.{ℕ, suc, min, ◌+◌, ◌≤◌}
 use native.Mathlib.Omega.{arith}
 use lib.Dec.{eqb}
-use lib.ListN.{length, get_or, take, drop, length-take, length-drop}
+use lib.ListN.{length, get_or, take, drop, length-take}
 use Rattle.std.proofs.Math.Nat.{min_comm}
 use Rattle.words.proofs.Laws.{run-le}
 use Rattle.reasons.specs.Reasons.{reason_no}
@@ -23,8 +23,8 @@ use Rattle.grammar.specs.declared.Kind.{Kind}
 use Rattle.grammar.specs.declared.Kind.TheVariants.{Version, Text, Integer, Number, Epoch}
 use Rattle.step.specs.declared.State.{State}
 use Rattle.std.proofs.Common.{find, unwrap_or, Some, cond}
-use Rattle.step.specs.Step.{part, word_len, Inside, SevenInside}
-use Rattle.step.proofs.Laws.{part_length, word-le, trim_inside, sides_inside, fields_inside, rest_whole}
+use Rattle.step.specs.Step.{part, word_len, Inside}
+use Rattle.step.proofs.Laws.{trim_inside, trim_part, word_within, tail_inside, tail_part, sides_inside, fields_inside}
 use Rattle.parts.specs.Parts.{past_long, first_odd, sides_in, keyword_part, value_in, kind_in, first_wrong, data_part, value_part, unit_part, offences, offending}
 use Rattle.std.specs.Prelude.{Option, Some, None}
 
@@ -50,21 +50,16 @@ sides_within s x e = rw e (go (assignment_of s) refl)
     go (Some y) h = sides_inside s y h
     go None h = (none_inside s, none_inside s)
 
--- a number ends in its field
-pub number_within : (p : Span) (s : List ℕ) → Inside p s → p.from + word_len (part p s) ≤ p.to
-number_within p s h = omega (arith, h.order, word-le (part p s), part_length p s h)
+-- ---- what follows a number, as the walk found it: the rest r of the value, and its trimmed part u
 
--- ---- what follows a number, as the walk found it: n bytes to the first blank, the rest r, and its trimmed part u
-
-module _ (s : List ℕ) (x : Sides) (n : ℕ) (r : List ℕ) (u : Span) (hx : x ≡ sides_in s) (hn : n ≡ word_len (part x.value s)) (hr : r ≡ drop n (part x.value s)) (hu : u ≡ trim_of r) where
-  pub unit_found : moved (x.value.from + n) u ≡ unit_part s
-  unfolding unit_part
-  unit_found = rw (← hx, ← hn, ← hr, ← hu)
-
-  pub unit_within : x.value.from + n + u.to ≤ length s
-  unit_within =
-      let w = (sides_within s x hx).1 in
-      omega (arith, w.order, w.end, (trim_inside r u hu).end, ap length hr, length-drop n (part x.value s), part_length x.value s w, number_within x.value s w)
+pub unit_found : (s t : List ℕ) (x : Sides) (r u : Span) → x ≡ sides_in s → let n = word_len (part x.value s) in
+    r ≡ record { from = x.value.from + n; to = x.value.to } → t ≡ s → u ≡ moved r.from (trim_of (part r t)) → u ≡ unit_part s
+unfolding unit_part
+unit_found s t x r u kx kr kt ku =
+    let w = (sides_within s x kx).1 in
+    let n = word_len (part x.value s) in
+    let e : part r t ≡ drop n (part x.value s) = rw (kt, kr) (tail_part x.value s w n (word_within x.value s w)) in
+    ku ∙ rw (e, kr) (rw (← kx))
 
 -- ---- the first field that is no number
 
@@ -78,20 +73,12 @@ wrong_found d (p ∷ ps) s = go (is_number (part p s)) (wrong_found d ps s)
     go true e = e
     go false e = refl
 
-pub rest_wrong : (d : Span) (ps : List Span) (s : List ℕ) → SevenInside ps s
-    → unwrap_or (find (λ p. not (is_number (part p s))) (take 6 (drop 1 ps))) d ≡ first_wrong d (drop 1 ps) s
-rest_wrong d ps s h = rw (rest_whole ps s h) (wrong_found d (drop 1 ps) s)
-
--- ---- the one field of a data line, its epoch read
-
-module _ (st : State) (s : List ℕ) (f : Fields) (e : Option Instant) (hf : f ≡ split_of s) (he : e ≡ epoch_of (part (get_or f.spans 0 no_span) s) st.utc) where
-  pub data_bad : e ≡ None → get_or f.spans 0 no_span ≡ data_part st s
-  unfolding data_part
-  data_bad h = rw (← hf, data_part) (rw (sym he ∙ h, data_part) (rw (← hf)))
-
-  pub data_later : {t : Instant} → e ≡ Some t → first_wrong (get_or f.spans 0 no_span) (drop 1 f.spans) s ≡ data_part st s
-  unfolding data_part
-  data_later h = rw (← hf, data_part) (rw (sym he ∙ h, data_part) (rw (← hf)))
+-- it, in a data line whose epoch has been read
+pub data_later : (st : State) (s : List ℕ) (f : Fields) (t : Instant) (w : Option Span) → f ≡ split_of s
+    → epoch_of (part (get_or f.spans 0 no_span) s) st.utc ≡ Some t → w ≡ find (λ p. not (is_number (part p s))) (drop 1 f.spans)
+    → unwrap_or w (get_or f.spans 0 no_span) ≡ data_part st s
+unfolding data_part
+data_later st s f t w kf h kw = rw (kw, wrong_found (get_or f.spans 0 no_span) (drop 1 f.spans) s) (rw (← kf, data_part) (rw (h, data_part) (rw (← kf))))
 
 -- ---- the part that offends
 
@@ -125,7 +112,7 @@ module _ (s : List ℕ) where
 
   in_inside : (k : Option Kind) (p : Span) → Inside p s → Inside (value_in k p s) s
   unfolding value_in
-  in_inside (Some Number) p h = record { order = omega arith; end = omega (arith, number_within p s h, h.end) }
+  in_inside (Some Number) p h = record { order = omega arith; end = omega (arith, word_within p s h, h.end) }
   in_inside (Some Version) p h = h
   in_inside (Some Text) p h = h
   in_inside (Some Integer) p h = h
@@ -160,9 +147,13 @@ module _ (s : List ℕ) where
       go None e = data_inside st
 
   unit_inside : Inside (unit_part s) s
+  unfolding unit_part
   unit_inside =
-      let x = sides_in s in
-      rw (← unit_found s x _ _ _ refl refl refl refl) (record { order = omega (arith, (trim_inside (drop (word_len (part x.value s)) (part x.value s)) _ refl).order); end = unit_within s x _ _ _ refl refl refl refl })
+      let p = (sides_in s).value in
+      let w = (sides_within s _ refl).1 in
+      let n = word_len (part p s) in
+      let i = word_within p s w in
+      trim_part _ s (tail_inside p s w n i) _ _ (sym (tail_part p s w n i)) refl
 
   pub offending-inside : (st : State) (r : Reason) → Inside (offending st s r) s
   unfolding offending

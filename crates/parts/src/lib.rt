@@ -1,16 +1,14 @@
 // The bytes that offend in a line, by the reason.
 #![tactic(auto)]
 
-ghost use Rattle.std.specs.Prelude.{◌≡◌, drop, get_or};
-ghost use Rattle.lines.specs.Text.{no_span};
-ghost use Rattle.step.specs.Step.{Inside, SevenInside};
-ghost use Rattle.parts.specs.Parts.{past_long, first_odd, sides_in, keyword_part, value_in, kind_in, first_wrong, data_part, value_part, unit_part, offending};
+ghost use Rattle.std.specs.Prelude.{◌≡◌};
+ghost use Rattle.parts.specs.Parts.{past_long, first_odd, sides_in, keyword_part, value_in, data_part, value_part, unit_part, offending};
 
 use epochs::epoch_of;
 use grammar::Kind;
 use lines::{Form, Sides, Span};
 use reasons::Reason;
-use step::State;
+use step::{DataLine, Part, State};
 use words::byte_at;
 
 // The text past 254 bytes.
@@ -60,76 +58,59 @@ fn keyword_part(text: &[u8]) -> Span
 
 // The value in its field: a number ends at the first blank.
 #[tactic(auto, unfolding(crate::specs::Parts::value_in))]
-fn value_in(kind: Option<Kind>, p: Span, text: &[u8]) -> Span
-    requires { Inside p text.now }
-    ensures { result ≡ value_in kind p text.now }
+fn value_in(kind: Option<Kind>, p: &Part) -> Span
+    ensures { result ≡ value_in kind p.now.span p.now.text.now }
 {
     match kind {
-        Some(Kind::Number) => Span {
-            from: p.from,
-            to: p.from + byte_at(&text[p.from..p.to], b' '),
-        },
-        _ => p,
+        Some(Kind::Number) => p.split().0.span,
+        _ => p.span,
     }
 }
 
-// What kind of value an assignment's keyword has.
-#[tactic(auto, unfolding(crate::specs::Parts::kind_in))]
-fn kind_in(form: Form, x: Sides, text: &[u8]) -> Option<Kind>
-    requires { Inside x.keyword text.now }
-    ensures { result ≡ kind_in form x text.now }
-{
-    let keyword = &text[x.keyword.from..x.keyword.to];
-    grammar::keyword_of(form, keyword).and_then(grammar::kind_of)
-}
-
-// The first of a data line's fields but the epoch that is no number, or the epoch.
-#[tactic(auto, using(crate::proofs::Laws::rest_wrong))]
-fn first_wrong(spans: [Span; 7], text: &[u8]) -> Span
-    requires { SevenInside spans text.now }
-    ensures { result ≡ first_wrong (get_or spans 0 no_span) (drop 1 spans) text.now }
-{
-    step::no_number(&spans[1..], text).unwrap_or(spans[0])
-}
-
-// The one field of a data line.
+// The one field of a data line: the epoch, or the first of the others that is no number.
+#[tactic(auto, using(step::proofs::Laws::fields_inside), unfolding(crate::specs::Parts::data_part))]
 fn data_part(state: State, text: &[u8]) -> Span
     ensures { result ≡ data_part state text.now }
 {
-    let spans = lines::fields_of(text).spans;
-    let p = spans[0];
-    match epoch_of(&text[p.from..p.to], state.utc) {
-        None => p,
-        Some(_) => first_wrong(spans, text),
+    let fields = lines::fields_of(text);
+    let line = DataLine { text, fields };
+    let epoch = line.epoch();
+    match epoch_of(epoch.bytes(), state.utc) {
+        None => epoch.span,
+        Some(_) => line.wrong().unwrap_or(epoch.span),
     }
 }
 
 // The value, of an assignment or a data line.
+#[tactic(auto, using(step::proofs::Laws::sides_inside), unfolding(crate::specs::Parts::value_part, crate::specs::Parts::kind_in))]
 fn value_part(state: State, text: &[u8]) -> Span
     ensures { result ≡ value_part state text.now }
 {
-    match lines::assignment_of(text) {
-        Some(x) => value_in(kind_in(state.form, x, text), x.value, text),
-        None => data_part(state, text),
-    }
+    let Some(x) = lines::assignment_of(text) else {
+        return data_part(state, text);
+    };
+    let keyword = Part {
+        text,
+        span: x.keyword,
+    };
+    let value = Part {
+        text,
+        span: x.value,
+    };
+    let kind = grammar::keyword_of(state.form, keyword.bytes()).and_then(grammar::kind_of);
+    value_in(kind, &value)
 }
 
 // What follows a number, trimmed.
+#[tactic(auto, using(crate::proofs::Laws::sides_within))]
 fn unit_part(text: &[u8]) -> Span
     ensures { result ≡ unit_part text.now }
 {
-    let p = sides_in(text).value;
-    let from = p.from;
-    let value = &text[from..p.to];
-    let n = byte_at(value, b' ');
-    let u = lines::trim(&value[n..]);
-    let blanks = u.from;
-    let end = u.to;
-    let past = from + n;
-    Span {
-        from: past + blanks,
-        to: past + end,
-    }
+    let value = Part {
+        text,
+        span: sides_in(text).value,
+    };
+    value.split().1.trim().span
 }
 
 // The bytes that offend in a line, by the reason.

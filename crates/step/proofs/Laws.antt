@@ -1,10 +1,11 @@
 -- Laws of the definitions on a line judged.
 -- Assumes nothing.
-use mathlib.Core.Path.{◌≡◌, refl, ap, ◌∙◌}
+use mathlib.Core.Path.{◌≡◌, refl, sym, ap, ◌∙◌}
 use mathlib.Core.List.{List, [], ◌∷◌}
 use mathlib.Core.Bool.{Bool, true, false, not, ◌&&◌, cond}
 use Rattle.std.proofs.Common.{All as EachOf, find, is_none, Some}
-use Rattle.std.proofs.lemmas.List.{take_all, get_or_default}
+use Rattle.std.proofs.lemmas.List.{take_all, drop-take, get_or_default}
+use lib.Seq.{take-take, drop-drop}
 use Rattle.std.proofs.lemmas.Grind.{get_or_after_one}
 use Prim.Native.Nat.{ℕ, zero, suc, ◌+◌, ◌-◌, ◌≤◌, ◌<◌}
 use native.Mathlib.Omega.{arith}
@@ -14,7 +15,7 @@ use Rattle.lines.specs.declared.Span.{Span}
 use Rattle.values.specs.Number.{is_number}
 use lib.Dec.{eqb, ltb}
 use Rattle.words.proofs.Laws.{run-le}
-use Rattle.lines.specs.Text.{is_blank, is_long, odd_at, equals_at, trim_of, sides_of, assignment_of, field_then, fields_from, fields_in, field_more, gathered, no_fields, split_of}
+use Rattle.lines.specs.Text.{is_blank, moved, is_long, odd_at, equals_at, trim_of, sides_of, assignment_of, field_then, fields_from, fields_in, field_more, gathered, no_fields, split_of}
 use Rattle.lines.specs.declared.Sides.{Sides}
 use Rattle.lines.specs.declared.Fields.{Fields}
 use borrow.Author.Tests.{ltb-true}
@@ -31,7 +32,7 @@ use Rattle.std.specs.Prelude.{Some, None, Result, Ok, Err, IsOk}
 
 -- ---- fields that are numbers
 
-numbers_none : (ps : List Span) (s : List ℕ) → is_none (find (λ p. not (is_number (part p s))) ps) ≡ are_numbers ps s
+pub numbers_none : (ps : List Span) (s : List ℕ) → is_none (find (λ p. not (is_number (part p s))) ps) ≡ are_numbers ps s
 unfolding are_numbers
 numbers_none [] s = refl
 numbers_none (p ∷ ps) s = go (is_number (part p s)) (numbers_none ps s)
@@ -51,9 +52,6 @@ module _ (ps : List Span) (s : List ℕ) (h : SevenInside ps s) where
       let q : get_or (take 6 (drop 1 ps)) k d ≡ get_or ps (1 + k) no_span =
       get_or_default (take 6 (drop 1 ps)) k d no_span e ∙ ap (λ (xs : List Span). get_or xs k no_span) rest_whole ∙ get_or_after_one ps k no_span in
       rw q (h.inside (1 + k))
-
-  pub rest_none : is_none (find (λ p. not (is_number (part p s))) (take 6 (drop 1 ps))) ≡ are_numbers (drop 1 ps) s
-  rest_none = rw rest_whole (numbers_none (drop 1 ps) s)
 
 -- ---- what goes by the message type
 
@@ -102,21 +100,70 @@ word-le s = run-le (λ b. not (is_blank b)) s
 pub trim_inside : (s : List ℕ) (p : Span) → p ≡ trim_of s → Inside p s
 trim_inside s p e = rw e (record { order = (trim_within s).0; end = (trim_within s).1 })
 
--- ---- a number and its unit, as the walk found them: n bytes to the first blank, the rest r, and its trimmed part q
+-- a part of a part
+module _ (p : Span) (s : List ℕ) (h : Inside p s) where
+  pub inside_part : (q : Span) → Inside q (part p s) → Inside (moved p.from q) s
+  inside_part q i = record { order = omega (arith, i.order); end = omega (arith, i.end, part_length p s h, h.order, h.end) }
 
-module _ (st : State) (c : ℕ) (p : Span) (s : List ℕ) (n : ℕ) (k : n ≡ word_len (part p s)) where
-  pub number_bad : is_number (take n (part p s)) ≡ false → number_of st c p s ≡ Err Reasons.Value
+  pub part_part : (q : Span) → Inside q (part p s) → part (moved p.from q) s ≡ part q (part p s)
+  part_part q i =
+      let m = p.to - p.from - q.from in
+      let n = q.to - q.from in
+      let room : q.to ≤ p.to - p.from = omega (arith, i.end, part_length p s h) in
+      let cut : drop q.from (part p s) ≡ take m (drop (p.from + q.from) s) =
+      ap (λ (k : ℕ). drop q.from (take k (drop p.from s))) (omega (arith, room, i.order)) ∙ drop-take q.from m (drop p.from s) ∙ ap (take m) (drop-drop q.from p.from s) in
+      let same : p.from + q.to - (p.from + q.from) ≡ n = omega arith in
+      rw (same, cut) (sym (take-take n m _ (omega (arith, room, i.order))))
+
+  pub trim_part : (v : List ℕ) (q : Span) → v ≡ part p s → q ≡ trim_of v → Inside (moved p.from q) s
+  trim_part v q e k = inside_part q (rw (← e) (trim_inside v q k))
+
+  pub word_within : p.from + word_len (part p s) ≤ p.to
+  word_within = omega (arith, h.order, word-le (part p s), part_length p s h)
+
+  -- its first n bytes, and the rest
+  pub word_inside : (n : ℕ) → p.from + n ≤ p.to → Inside (record { from = p.from; to = p.from + n }) s
+  word_inside n i = record { order = omega arith; end = omega (arith, i, h.end) }
+
+  pub tail_inside : (n : ℕ) → p.from + n ≤ p.to → Inside (record { from = p.from + n; to = p.to }) s
+  tail_inside n i = record { order = i; end = h.end }
+
+  word_part : (n : ℕ) → p.from + n ≤ p.to → part (record { from = p.from; to = p.from + n }) s ≡ take n (part p s)
+  word_part n i = let e : p.from + n - p.from ≡ n = omega arith in rw e (sym (take-take n (p.to - p.from) (drop p.from s) (omega (arith, i))))
+
+  pub tail_part : (n : ℕ) → p.from + n ≤ p.to → part (record { from = p.from + n; to = p.to }) s ≡ drop n (part p s)
+  tail_part n i =
+      let m = p.to - (p.from + n) in
+      sym (ap (λ (k : ℕ). drop n (take k (drop p.from s))) (omega (arith, i)) ∙ drop-take n m (drop p.from s) ∙ ap (take m) (drop-drop n p.from s))
+
+-- ---- a number and its unit, as the walk found them: the number is w, of the bytes v, and the unit's bytes are b
+
+module _ (p : Span) (s : List ℕ) (h : Inside p s) where
+  pub number_bytes : (w : Span) (t v : List ℕ) → w ≡ record { from = p.from; to = p.from + word_len (part p s) } → t ≡ s → v ≡ part w t → v ≡ take (word_len (part p s)) (part p s)
+  number_bytes w t v kw kt kv = kv ∙ rw (kt, kw) (word_part p s h _ (word_within p s h))
+
+  pub unit_bytes : (r u : Span) (t x b : List ℕ) → r ≡ record { from = p.from + word_len (part p s); to = p.to } → t ≡ s → u ≡ moved r.from (trim_of (part r t)) → x ≡ t → b ≡ part u x
+      → let d = drop (word_len (part p s)) (part p s) in b ≡ part (trim_of d) d
+  unit_bytes r u t x b kr kt ku kx kb =
+      let i = word_within p s h in
+      let n = word_len (part p s) in
+      let e : part r s ≡ drop n (part p s) = rw kr (tail_part p s h n i) in
+      let g : Inside r s = rw kr (tail_inside p s h n i) in
+      kb ∙ rw (kx, ku, kt) (part_part r s g (trim_of (part r s)) (trim_inside (part r s) _ refl) ∙ ap (λ (d : List ℕ). part (trim_of d) d) e)
+
+module _ (st : State) (c : ℕ) (p : Span) (s v : List ℕ) (kv : v ≡ take (word_len (part p s)) (part p s)) where
+  pub number_bad : is_number v ≡ false → Err Reasons.Value ≡ number_of st c p s
   unfolding number_of
-  number_bad e = rw (← k, number_of) (rw e)
+  number_bad e = rw (← kv, number_of) (rw e)
 
-  module _ (r : List ℕ) (q : Span) (kr : r ≡ drop n (part p s)) (kq : q ≡ trim_of r) (e : is_number (take n (part p s)) ≡ true) where
-    pub number_unit : is_unit c (part q r) ≡ false → number_of st c p s ≡ Err Reasons.Unit
+  module _ (b : List ℕ) (kb : let d = drop (word_len (part p s)) (part p s) in b ≡ part (trim_of d) d) (e : is_number v ≡ true) where
+    pub number_unit : is_unit c b ≡ false → Err Reasons.Unit ≡ number_of st c p s
     unfolding number_of
-    number_unit u = rw (← k, number_of) (rw e (rw (← k) (rw (← kr, ← kq) (rw u))))
+    number_unit u = rw (← kv, number_of) (rw e (rw (← kb) (rw u)))
 
-    pub number_right : is_unit c (part q r) ≡ true → number_of st c p s ≡ Ok (one_row (past st c) c (record { from = p.from; to = p.from + n }))
+    pub number_right : (w : Span) → w ≡ record { from = p.from; to = p.from + word_len (part p s) } → is_unit c b ≡ true → Ok (one_row (past st c) c w) ≡ number_of st c p s
     unfolding number_of
-    number_right u = rw (← k, number_of) (rw e (rw (← k) (rw (← kr, ← kq) (rw u (rw (← k))))))
+    number_right w kw u = rw (← kv, number_of) (rw e (rw (← kb) (rw u (rw (← kw)))))
 
 -- ---- the sides of an assignment and the fields of a data line lie in their text
 

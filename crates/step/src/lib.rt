@@ -1,9 +1,10 @@
 // One line of a message judged from its text and the state alone; no place in the feed is part of the state.
 #![tactic(auto)]
 
-ghost use Rattle.std.specs.Prelude.{◌≡◌, drop, not, find, All};
+ghost use Rattle.std.specs.Prelude.{◌≡◌, ◌+◌, drop, get_or, not, find, All};
+ghost use Rattle.lines.specs.Text.{trim_of, moved, no_span};
 ghost use Rattle.values.specs.Number.{is_number};
-ghost use Rattle.step.specs.Step.{no_row, one_row, fresh_state, part, past, fits_here, sixty_stands, Inside, SevenInside, Sure, is_timely, are_numbers, past_data, data_at, data_of, fields_of, past_whole, whole_of, number_of, past_time, is_early, time_of, value_of, assign_of, meta_code, meta_of, plain_of, past_comment, uncommented_of, filled_of, step_of};
+ghost use Rattle.step.specs.Step.{no_row, one_row, fresh_state, part, past, fits_here, sixty_stands, word_len, Inside, SevenInside, Sure, is_timely, are_numbers, past_data, data_at, data_of, fields_of, past_whole, whole_of, number_of, past_time, is_early, time_of, value_of, assign_of, meta_code, meta_of, plain_of, past_comment, uncommented_of, filled_of, step_of};
 
 use epochs::{Instant, epoch_of, is_before};
 use grammar::Kind;
@@ -30,6 +31,95 @@ pub struct Step {
     pub code: u16,
     pub count: usize,
     pub spans: [Span; 7],
+}
+
+// A part of a line's text, with the text that it lies in.
+#[derive(Clone, Copy)]
+pub struct Part<'a> {
+    pub text: &'a [u8],
+    pub span: Span,
+    ghost inside: { Inside span text.now },
+}
+
+impl<'a> Part<'a> {
+    // What stands there.
+    pub fn bytes(&self) -> &'a [u8]
+        ensures { result.now ≡ part self.now.span self.now.text.now }
+    {
+        &self.text[self.span.from..self.span.to]
+    }
+
+    // Up to its first blank, and from there on.
+    pub fn split(&self) -> (Part<'a>, Part<'a>)
+        ensures word { result.0.span ≡ record { from = self.now.span.from; to = self.now.span.from + word_len (part self.now.span self.now.text.now) } }
+        ensures rest { result.1.span ≡ record { from = self.now.span.from + word_len (part self.now.span self.now.text.now); to = self.now.span.to } }
+        ensures word_text { result.0.text.now ≡ self.now.text.now }
+        ensures rest_text { result.1.text.now ≡ self.now.text.now }
+    {
+        let Part { text, span } = *self;
+        let at = span.from + byte_at(self.bytes(), b' ');
+        let word = Span {
+            from: span.from,
+            to: at,
+        };
+        let rest = Span {
+            from: at,
+            to: span.to,
+        };
+        (Part { text, span: word }, Part { text, span: rest })
+    }
+
+    // Without the blanks at its ends.
+    pub fn trim(&self) -> Part<'a>
+        ensures span { result.span ≡ moved self.now.span.from (trim_of (part self.now.span self.now.text.now)) }
+        ensures text { result.text.now ≡ self.now.text.now }
+    {
+        let Part { text, span } = *self;
+        let inner = lines::trim(self.bytes());
+        Part {
+            text,
+            span: Span {
+                from: span.from + inner.from,
+                to: span.from + inner.to,
+            },
+        }
+    }
+}
+
+// A data line's fields, with the text that they lie in.
+#[derive(Clone, Copy)]
+pub struct DataLine<'a> {
+    pub text: &'a [u8],
+    pub fields: Fields,
+    ghost inside: { SevenInside fields.spans text.now },
+}
+
+impl<'a> DataLine<'a> {
+    // Its epoch, the first of them.
+    pub fn epoch(&self) -> Part<'a>
+        ensures span { result.span ≡ get_or self.now.fields.spans 0 no_span }
+        ensures text { result.text.now ≡ self.now.text.now }
+    {
+        Part {
+            text: self.text,
+            span: self.fields.spans[0],
+        }
+    }
+
+    // The first of the others that is no number.
+    #[tactic(auto, using(crate::proofs::Laws::rest_whole))]
+    pub fn wrong(&self) -> Option<Span>
+        ensures { result ≡ find (λ p. not (is_number (part p self.now.text.now))) (drop 1 self.now.fields.spans) }
+    {
+        no_number(&self.fields.spans[1..], self.text)
+    }
+
+    // Each of the others is a number.
+    fn are_numbers(&self) -> bool
+        ensures { result ≡ are_numbers (drop 1 self.now.fields.spans) self.now.text.now }
+    {
+        self.wrong().is_none()
+    }
 }
 
 // The code of a META line, where the text is one.
@@ -62,15 +152,6 @@ pub fn no_number(fields: &[Span], text: &[u8]) -> Option<Span>
         .find(|p| !values::is_number(&text[p.from..p.to]))
 }
 
-// Each of the seven fields but the first is a number.
-#[tactic(auto, using(crate::proofs::Laws::rest_none))]
-fn are_numbers(spans: [Span; 7], text: &[u8]) -> bool
-    requires { SevenInside spans text.now }
-    ensures { result ≡ are_numbers (drop 1 spans) text.now }
-{
-    no_number(&spans[1..], text).is_none()
-}
-
 impl State {
     // Before a message's first line.
     pub fn fresh(form: Form) -> Self
@@ -92,7 +173,7 @@ impl State {
     }
 
     // The line is right and has no row.
-    pub fn no_row(self) -> Step
+    fn no_row(self) -> Step
         ensures { result ≡ no_row self }
     {
         Step {
@@ -165,14 +246,12 @@ impl State {
 
     // A data line whose epoch has been read.
     #[tactic(auto, unfolding(crate::specs::Step::data_at))]
-    fn data_at(self, f: Fields, t: Instant, text: &[u8], sure: bool) -> Result<Step, Reason>
-        requires seven_inside { SevenInside f.spans text.now }
-        requires sure { Sure sure (data_at self f t text.now) }
-        ensures { result ≡ data_at self f t text.now }
+    fn data_at(self, line: &DataLine, t: Instant, sure: bool) -> Result<Step, Reason>
+        requires { Sure sure (data_at self line.now.fields t line.now.text.now) }
+        ensures { result ≡ data_at self line.now.fields t line.now.text.now }
     {
-        let spans = f.spans;
         if !sure {
-            let numbers = are_numbers(spans, text);
+            let numbers = line.are_numbers();
             let timely = self.is_timely(t);
             if !numbers {
                 return Err(Reason::Value);
@@ -185,23 +264,21 @@ impl State {
             state: self.past_data(t),
             code: 9,
             count: 7,
-            spans,
+            spans: line.fields.spans,
         })
     }
 
     // A line of seven fields in an OEM.
     #[tactic(auto, unfolding(crate::specs::Step::data_of))]
-    fn data(self, f: Fields, text: &[u8], sure: bool) -> Result<Step, Reason>
-        requires seven_inside { SevenInside f.spans text.now }
-        requires sure { Sure sure (data_of self f text.now) }
-        ensures { result ≡ data_of self f text.now }
+    fn data(self, line: &DataLine, sure: bool) -> Result<Step, Reason>
+        requires { Sure sure (data_of self line.now.fields line.now.text.now) }
+        ensures { result ≡ data_of self line.now.fields line.now.text.now }
     {
         if !self.fits(9) {
             return Err(Reason::Order);
         }
-        let p = f.spans[0];
-        let t = epoch_of(&text[p.from..p.to], self.sixty_stands(9)).ok_or(Reason::Value)?;
-        self.data_at(f, t, text, sure)
+        let t = epoch_of(line.epoch().bytes(), self.sixty_stands(9)).ok_or(Reason::Value)?;
+        self.data_at(line, t, sure)
     }
 
     // A line that is no assignment: a data line in an OEM, or nothing that has a form.
@@ -213,11 +290,11 @@ impl State {
         match self.form {
             Form::Opm => Err(Reason::Form),
             Form::Oem => {
-                let f = lines::fields_of(text);
-                if f.count != 7 {
+                let fields = lines::fields_of(text);
+                if fields.count != 7 {
                     return Err(Reason::Form);
                 }
-                self.data(f, text, sure)
+                self.data(&DataLine { text, fields }, sure)
             }
         }
     }
@@ -249,23 +326,17 @@ impl State {
     }
 
     // A number, which ends at the first blank, and its unit.
-    #[tactic(auto, using(crate::proofs::Laws::trim_inside, crate::proofs::Laws::number_bad))]
-    fn number(self, code: u16, p: Span, text: &[u8]) -> Result<Step, Reason>
-        requires { Inside p text.now }
-        ensures { result ≡ number_of self code p text.now }
+    fn number(self, code: u16, p: &Part) -> Result<Step, Reason>
+        ensures { result ≡ number_of self code p.now.span p.now.text.now }
     {
-        let from = p.from;
-        let value = &text[from..p.to];
-        let n = byte_at(value, b' ');
-        if !values::is_number(&value[..n]) {
+        let (number, rest) = p.split();
+        if !values::is_number(number.bytes()) {
             return Err(Reason::Value);
         }
-        let rest = &value[n..];
-        let unit = lines::trim(rest);
-        if !grammar::unit_right(code, &rest[unit.from..unit.to]) {
+        if !grammar::unit_right(code, rest.trim().bytes()) {
             return Err(Reason::Unit);
         }
-        Ok(self.past(code).one_row(code, Span { from, to: from + n }))
+        Ok(self.past(code).one_row(code, number.span))
     }
 
     // A time of a segment's block that is before the latest one given.
@@ -299,30 +370,28 @@ impl State {
 
     // An epoch.
     #[tactic(auto, unfolding(crate::specs::Step::time_of))]
-    fn time(self, code: u16, p: Span, text: &[u8]) -> Result<Step, Reason>
-        requires { Inside p text.now }
-        ensures { result ≡ time_of self code p text.now }
+    fn time(self, code: u16, p: &Part) -> Result<Step, Reason>
+        ensures { result ≡ time_of self code p.now.span p.now.text.now }
     {
-        let t = epoch_of(&text[p.from..p.to], self.sixty_stands(code)).ok_or(Reason::Value)?;
+        let t = epoch_of(p.bytes(), self.sixty_stands(code)).ok_or(Reason::Value)?;
         if self.is_early(code, t) {
             return Err(Reason::TimeOrder);
         }
-        Ok(self.past_time(code, t).one_row(code, p))
+        Ok(self.past_time(code, t).one_row(code, p.span))
     }
 
     // The value of an assignment that stands in its place.
     #[tactic(auto, unfolding(crate::specs::Step::value_of))]
-    fn value(self, code: u16, p: Span, text: &[u8]) -> Result<Step, Reason>
-        requires { Inside p text.now }
-        ensures { result ≡ value_of self code p text.now }
+    fn value(self, code: u16, p: &Part) -> Result<Step, Reason>
+        ensures { result ≡ value_of self code p.now.span p.now.text.now }
     {
-        let field = &text[p.from..p.to];
+        let field = p.bytes();
         match grammar::kind_of(code) {
-            Some(Kind::Version) => self.whole(code, p, field, values::is_version(field)),
-            Some(Kind::Text) => self.whole(code, p, field, values::is_text(field)),
-            Some(Kind::Integer) => self.whole(code, p, field, values::is_integer(field)),
-            Some(Kind::Number) => self.number(code, p, text),
-            Some(Kind::Epoch) => self.time(code, p, text),
+            Some(Kind::Version) => self.whole(code, p.span, field, values::is_version(field)),
+            Some(Kind::Text) => self.whole(code, p.span, field, values::is_text(field)),
+            Some(Kind::Integer) => self.whole(code, p.span, field, values::is_integer(field)),
+            Some(Kind::Number) => self.number(code, p),
+            Some(Kind::Epoch) => self.time(code, p),
             None => Err(Reason::Value),
         }
     }
@@ -333,12 +402,21 @@ impl State {
         requires { Inside x.keyword text.now × Inside x.value text.now }
         ensures { result ≡ assign_of self x text.now }
     {
-        let keyword = &text[x.keyword.from..x.keyword.to];
-        let code = grammar::keyword_of(self.form, keyword).ok_or(Reason::Keyword)?;
+        let keyword = Part {
+            text,
+            span: x.keyword,
+        };
+        let code = grammar::keyword_of(self.form, keyword.bytes()).ok_or(Reason::Keyword)?;
         if !self.fits(code) {
             return Err(Reason::Order);
         }
-        self.value(code, x.value, text)
+        self.value(
+            code,
+            &Part {
+                text,
+                span: x.value,
+            },
+        )
     }
 
     // A META line, whose keyword ends at n.
@@ -382,27 +460,25 @@ impl State {
 
     // A line that is no comment; its trimmed part is t.
     #[tactic(auto, unfolding(crate::specs::Step::uncommented_of))]
-    fn uncommented(self, t: Span, text: &[u8], sure: bool) -> Result<Step, Reason>
-        requires inside { Inside t text.now }
-        requires sure { Sure sure (uncommented_of self t text.now) }
-        ensures { result ≡ uncommented_of self t text.now }
+    fn uncommented(self, t: &Part, sure: bool) -> Result<Step, Reason>
+        requires { Sure sure (uncommented_of self t.now.span t.now.text.now) }
+        ensures { result ≡ uncommented_of self t.now.span t.now.text.now }
     {
-        match meta_code(self.form, &text[t.from..t.to]) {
-            Some(code) => self.meta(code, t.to),
-            None => self.plain(text, sure),
+        match meta_code(self.form, t.bytes()) {
+            Some(code) => self.meta(code, t.span.to),
+            None => self.plain(t.text, sure),
         }
     }
 
     // A line that is not blank; its trimmed part is t.
     #[tactic(auto, unfolding(crate::specs::Step::filled_of))]
-    fn filled(self, t: Span, text: &[u8], sure: bool) -> Result<Step, Reason>
-        requires inside { Inside t text.now }
-        requires sure { Sure sure (filled_of self t text.now) }
-        ensures { result ≡ filled_of self t text.now }
+    fn filled(self, t: &Part, sure: bool) -> Result<Step, Reason>
+        requires { Sure sure (filled_of self t.now.span t.now.text.now) }
+        ensures { result ≡ filled_of self t.now.span t.now.text.now }
     {
-        match lines::comment_of(text) {
+        match lines::comment_of(t.text) {
             Some(p) => Ok(self.past_comment().one_row(45, p)),
-            None => self.uncommented(t, text, sure),
+            None => self.uncommented(t, sure),
         }
     }
 
@@ -420,10 +496,10 @@ impl State {
                 return Err(Reason::Byte);
             }
         }
-        let t = lines::trim(text);
-        if t.to == 0 {
+        let span = lines::trim(text);
+        if span.to == 0 {
             return Ok(self.no_row());
         }
-        self.filled(t, text, sure)
+        self.filled(&Part { text, span }, sure)
     }
 }
