@@ -5,8 +5,8 @@ ghost use Rattle.std.specs.Prelude.{◌≡◌, length};
 
 use desk::{Desk, RowNumber, Ticket};
 use judge::{Refusal, Row};
-use reasons::Reason;
 use reading::read_full;
+use reasons::Reason;
 use std::io;
 use std::io::Write;
 

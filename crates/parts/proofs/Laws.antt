@@ -1,6 +1,6 @@
 -- Laws of the parts of a line that offend: what the walks found is what the definitions say, and each part lies in the text.
 -- Assumes nothing.
-use mathlib.Core.Path.{◌≡◌, refl, sym, ◌∙◌}
+use mathlib.Core.Path.{◌≡◌, refl, ◌∙◌}
 use mathlib.Core.List.{List, [], ◌∷◌}
 use mathlib.Core.Bool.{Bool, true, false, not}
 use Prim.Native.Nat.{ℕ, suc, min, ◌+◌, ◌≤◌}
@@ -24,7 +24,7 @@ use Rattle.grammar.specs.declared.Kind.TheVariants.{Version, Text, Integer, Numb
 use Rattle.step.specs.declared.State.{State}
 use Rattle.std.proofs.Common.{find, unwrap_or, Some, cond}
 use Rattle.step.specs.Step.{part, word_len, Inside}
-use Rattle.step.proofs.Laws.{trim_inside, trim_part, word_within, tail_inside, tail_part, sides_inside, fields_inside}
+use Rattle.step.proofs.Laws.{trim_inside, inside_part, word_within, tail_inside, tail_part, sides_inside, fields_inside}
 use Rattle.parts.specs.Parts.{past_long, first_odd, sides_in, keyword_part, value_in, kind_in, first_wrong, data_part, value_part, unit_part, offences, offending}
 use Rattle.std.specs.Prelude.{Option, Some, None}
 
@@ -58,7 +58,7 @@ unfolding unit_part
 unit_found s t x r u kx kr kt ku =
     let w = (sides_within s x kx).1 in
     let n = word_len (part x.value s) in
-    let e : part r t ≡ drop n (part x.value s) = rw (kt, kr) (tail_part x.value s w n (word_within x.value s w)) in
+    let e : part r t ≡ drop n (part x.value s) = rw (kt, kr) (tail_part x.value s w n (word_within x.value s w _ refl)) in
     ku ∙ rw (e, kr) (rw (← kx))
 
 -- ---- the first field that is no number
@@ -112,7 +112,7 @@ module _ (s : List ℕ) where
 
   in_inside : (k : Option Kind) (p : Span) → Inside p s → Inside (value_in k p s) s
   unfolding value_in
-  in_inside (Some Number) p h = record { order = omega arith; end = omega (arith, word_within p s h, h.end) }
+  in_inside (Some Number) p h = record { order = omega arith; end = omega (arith, word_within p s h _ refl, h.end) }
   in_inside (Some Version) p h = h
   in_inside (Some Text) p h = h
   in_inside (Some Integer) p h = h
@@ -152,8 +152,8 @@ module _ (s : List ℕ) where
       let p = (sides_in s).value in
       let w = (sides_within s _ refl).1 in
       let n = word_len (part p s) in
-      let i = word_within p s w in
-      trim_part _ s (tail_inside p s w n i) _ _ (sym (tail_part p s w n i)) refl
+      let i = word_within p s w n refl in
+      inside_part _ s (tail_inside p s w n refl) _ (rw (tail_part p s w n i) (trim_inside (drop n (part p s)) _ refl))
 
   pub offending-inside : (st : State) (r : Reason) → Inside (offending st s r) s
   unfolding offending

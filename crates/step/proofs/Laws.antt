@@ -118,15 +118,15 @@ module _ (p : Span) (s : List ℕ) (h : Inside p s) where
   pub trim_part : (v : List ℕ) (q : Span) → v ≡ part p s → q ≡ trim_of v → Inside (moved p.from q) s
   trim_part v q e k = inside_part q (rw (← e) (trim_inside v q k))
 
-  pub word_within : p.from + word_len (part p s) ≤ p.to
-  word_within = omega (arith, h.order, word-le (part p s), part_length p s h)
+  -- its first n bytes, up to a blank, and the rest
+  pub word_within : (n : ℕ) → n ≡ word_len (part p s) → p.from + n ≤ p.to
+  word_within n e = omega (arith, e, h.order, word-le (part p s), part_length p s h)
 
-  -- its first n bytes, and the rest
-  pub word_inside : (n : ℕ) → p.from + n ≤ p.to → Inside (record { from = p.from; to = p.from + n }) s
-  word_inside n i = record { order = omega arith; end = omega (arith, i, h.end) }
+  pub word_inside : (n : ℕ) → n ≡ word_len (part p s) → Inside (record { from = p.from; to = p.from + n }) s
+  word_inside n e = record { order = omega arith; end = omega (arith, word_within n e, h.end) }
 
-  pub tail_inside : (n : ℕ) → p.from + n ≤ p.to → Inside (record { from = p.from + n; to = p.to }) s
-  tail_inside n i = record { order = i; end = h.end }
+  pub tail_inside : (n : ℕ) → n ≡ word_len (part p s) → Inside (record { from = p.from + n; to = p.to }) s
+  tail_inside n e = record { order = word_within n e; end = h.end }
 
   word_part : (n : ℕ) → p.from + n ≤ p.to → part (record { from = p.from; to = p.from + n }) s ≡ take n (part p s)
   word_part n i = let e : p.from + n - p.from ≡ n = omega arith in rw e (sym (take-take n (p.to - p.from) (drop p.from s) (omega (arith, i))))
@@ -140,15 +140,15 @@ module _ (p : Span) (s : List ℕ) (h : Inside p s) where
 
 module _ (p : Span) (s : List ℕ) (h : Inside p s) where
   pub number_bytes : (w : Span) (t v : List ℕ) → w ≡ record { from = p.from; to = p.from + word_len (part p s) } → t ≡ s → v ≡ part w t → v ≡ take (word_len (part p s)) (part p s)
-  number_bytes w t v kw kt kv = kv ∙ rw (kt, kw) (word_part p s h _ (word_within p s h))
+  number_bytes w t v kw kt kv = kv ∙ rw (kt, kw) (word_part p s h _ (word_within p s h _ refl))
 
   pub unit_bytes : (r u : Span) (t x b : List ℕ) → r ≡ record { from = p.from + word_len (part p s); to = p.to } → t ≡ s → u ≡ moved r.from (trim_of (part r t)) → x ≡ t → b ≡ part u x
       → let d = drop (word_len (part p s)) (part p s) in b ≡ part (trim_of d) d
   unit_bytes r u t x b kr kt ku kx kb =
-      let i = word_within p s h in
+      let i = word_within p s h _ refl in
       let n = word_len (part p s) in
       let e : part r s ≡ drop n (part p s) = rw kr (tail_part p s h n i) in
-      let g : Inside r s = rw kr (tail_inside p s h n i) in
+      let g : Inside r s = rw kr (tail_inside p s h n refl) in
       kb ∙ rw (kx, ku, kt) (part_part r s g (trim_of (part r s)) (trim_inside (part r s) _ refl) ∙ ap (λ (d : List ℕ). part (trim_of d) d) e)
 
 module _ (st : State) (c : ℕ) (p : Span) (s v : List ℕ) (kv : v ≡ take (word_len (part p s)) (part p s)) where

@@ -50,6 +50,7 @@ impl<'a> Part<'a> {
     }
 
     // Up to its first blank, and from there on.
+    #[tactic(auto, using(crate::proofs::Laws::word_within, crate::proofs::Laws::word_inside, crate::proofs::Laws::tail_inside))]
     pub fn split(&self) -> (Part<'a>, Part<'a>)
         ensures word { result.0.span ≡ record { from = self.now.span.from; to = self.now.span.from + word_len (part self.now.span self.now.text.now) } }
         ensures rest { result.1.span ≡ record { from = self.now.span.from + word_len (part self.now.span self.now.text.now); to = self.now.span.to } }

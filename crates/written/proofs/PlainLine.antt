@@ -163,7 +163,11 @@ module _ (st : State) (c : ℕ) where
       → number_of st c p s ≡ Ok (one_row (past st c) c (span p.from (p.from + length (part p s))))
   unfolding is_unit trim_of cut_end run
   number_alone p s h e =
-      number_right st c p s (length (part p s)) (sym h) [] (trim_of []) (sym (drop-length (part p s))) refl (rw take-length e) refl
+      let v = part p s in
+      let n = word_len v in
+      let whole : v ≡ take n v = sym (ap (λ (m : ℕ). take m v) h ∙ take-length v) in
+      let end : [] ≡ drop n v = sym (ap (λ (m : ℕ). drop m v) h ∙ drop-length v) in
+      sym (number_right st c p s v whole [] (rw (← end) refl) e (span p.from (p.from + length v)) (rw h refl) refl)
 
   module _ (p : Span) (s : List ℕ) (t : Trimmed (part p s)) where
     -- the whole field
@@ -193,7 +197,7 @@ module _ (st : State) (c : ℕ) where
         (λ f x h. record {
           state = past st c;
           row = span p.from (p.from + n);
-          is = number_right st c p s n refl r (trim_of r) refl refl e f;
+          is = sym (number_right st c p s (take n v) refl (part (trim_of r) r) refl e (span p.from (p.from + n)) refl f);
           value = rw a (word_trimmed (take n v) b);
           shorter = rw a short;
           again = λ p' q k.
