@@ -174,7 +174,7 @@ impl State {
     }
 
     // The line is right and has no row.
-    fn no_row(self) -> Step
+    pub fn no_row(self) -> Step
         ensures { result ≡ no_row self }
     {
         Step {
