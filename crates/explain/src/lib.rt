@@ -20,7 +20,7 @@ pub struct Codes {
     pub codes: [u32; 4],
 }
 
-// A judgement; the place and length of the offending bytes, and the codes that could have stood there, all 0 where there are none.
+// A judgement; the place and length of the offending bytes, and the codes that could have stood there, all 0 where there are none, as C has them.
 #[derive(Clone, Copy, Debug, PartialEq, Eq)]
 pub struct Explained {
     pub judged: Result<u32, Refusal>,

@@ -13,7 +13,7 @@ use step::{State, Step};
 // A feed has at most so many bytes.
 pub const FEED_LIMIT: usize = 16777215;
 
-// Why a message is refused: the reason, and the line, or 0 where it is no line's.
+// Why a message is refused: the reason, and the line, or 0 where it is no line's: the theorems on refusals say so, and C has it so.
 #[derive(Clone, Copy, Debug, PartialEq, Eq)]
 pub struct Refusal {
     pub reason: Reason,
@@ -123,6 +123,7 @@ fn is_over(text: &[u8], first: bool) -> bool
 }
 
 // The next line of a message, judged, or none at the message's end; shared by judging and by the walks that come behind, which are sure of every line.
+// Five arguments, since its promise speaks of these five.
 pub fn next_line(
     feed: &[u8],
     at: usize,
@@ -180,6 +181,7 @@ fn walk_from(feed: &[u8], found: Found) -> Stop
         state: State::fresh(found.form),
         offence: None,
     };
+    // no iterator: each line is asked for with the state that the one before left
     'lines: loop {
         match next_line(feed, stop.at, stop.line == 1, stop.state, false) {
             Err(reason) => {

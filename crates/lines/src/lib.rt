@@ -52,7 +52,7 @@ pub struct Sides {
     pub value: Span,
 }
 
-// The first seven fields, and how many there are: 8 stands for more than seven.
+// The first seven fields, and how many there are: 8 stands for more than seven, as `leaves` prints it; no Vec, since there is no heap.
 #[derive(Clone, Copy, Debug, PartialEq, Eq)]
 pub struct Fields {
     pub count: usize,

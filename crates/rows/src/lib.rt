@@ -6,7 +6,7 @@ ghost use Rattle.judge.specs.Message.{feed_limit, judge_of, group_of, rows_at, r
 ghost use Rattle.tables.specs.Table.{put_rows};
 ghost use Rattle.rows.specs.Filled.{StepFits, rows_found, Fillable, room_for, table_after};
 
-use judge::{Refusal, Row};
+use judge::{Found, Refusal, Row};
 use lines::Form;
 use reasons::Reason;
 use step::{State, Step};
@@ -55,16 +55,17 @@ fn put_rows(table: &mut [u8], n: u32, step: Step, group: u32, line: u32, at: usi
 }
 
 // The rows of the message that starts at a place, put into the table from its start: the second walk, with the same step.
-fn fill(feed: &[u8], from: usize, form: Form, table: &mut [u8])
-    requires { Fillable feed.now from form }
-    ensures { table.new ≡ put_rows 0 (rows_found feed.now from form) table.old }
+fn fill(feed: &[u8], found: Found, table: &mut [u8])
+    requires { Fillable feed.now found.at found.form }
+    ensures { table.new ≡ put_rows 0 (rows_found feed.now found.at found.form) table.old }
 {
+    let from = found.at;
     let mut at = from;
     let mut line: u32 = 1;
     let mut group: u32 = 0;
     let mut n: u32 = 0;
-    let mut state = State::fresh(form);
-    // sure: the message is right
+    let mut state = State::fresh(found.form);
+    // no iterator: each line is asked for with the state that the one before left; sure, since the message is right
     'lines: while let Ok(Some(moved)) = judge::next_line(feed, at, line == 1, state, true) {
         let step = moved.step;
         group = group_after(state.form, group, step.code);
@@ -77,22 +78,16 @@ fn fill(feed: &[u8], from: usize, form: Form, table: &mut [u8])
 }
 
 // A message that is right, found at a place, with so many rows: nothing is put before the table is known to have room.
-fn put_found(
-    feed: &[u8],
-    from: usize,
-    form: Form,
-    rows: u32,
-    table: &mut [u8],
-) -> Result<u32, Refusal>
-    requires fillable { Fillable feed.now from form }
-    requires rows_value { rows ≡ length (rows_found feed.now from form) }
+fn put_found(feed: &[u8], found: Found, rows: u32, table: &mut [u8]) -> Result<u32, Refusal>
+    requires fillable { Fillable feed.now found.at found.form }
+    requires rows_value { rows ≡ length (rows_found feed.now found.at found.form) }
     ensures answer { result ≡ room_for (length table.old) (Ok rows) }
-    ensures table { table.new ≡ table_after result (rows_found feed.now from form) table.old }
+    ensures table { table.new ≡ table_after result (rows_found feed.now found.at found.form) table.old }
 {
     if table.len() < ROW_BYTES * (rows as usize) {
         return Err(Reason::NoRoom.into());
     }
-    fill(feed, from, form, table);
+    fill(feed, found, table);
     Ok(rows)
 }
 
@@ -102,11 +97,5 @@ pub fn put_message(feed: &[u8], message: usize, table: &mut [u8]) -> Result<u32,
     ensures table { table.new ≡ table_after result (rows_of feed.now message) table.old }
 {
     let sighted = judge::sight(feed, message)?;
-    put_found(
-        feed,
-        sighted.found.at,
-        sighted.found.form,
-        sighted.rows,
-        table,
-    )
+    put_found(feed, sighted.found, sighted.rows, table)
 }

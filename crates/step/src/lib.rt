@@ -14,6 +14,7 @@ use words::{byte_at, is_word};
 
 // What judging a line needs of the lines before it: the code of the last one that is no comment and not blank (0: none; 45: a comment
 // since the data lines), whether the present TIME_SYSTEM is exactly UTC, START_TIME, the latest time given, and the last data line's epoch.
+// `last` is a number and no Option: the theorems on what may follow go by 0 as by the codes.
 #[derive(Clone, Copy, Debug, PartialEq, Eq)]
 pub struct State {
     pub form: Form,
@@ -24,7 +25,7 @@ pub struct State {
     pub seen: Instant,
 }
 
-// A line that is right: the next state, and the spans of its rows' values within its text, with the first row's code.
+// A line that is right: the next state, and the spans of its rows' values within its text, with the first row's code; no Vec, since there is no heap.
 #[derive(Clone, Copy, Debug, PartialEq, Eq)]
 pub struct Step {
     pub state: State,
@@ -484,6 +485,7 @@ impl State {
     }
 
     // One line judged; where whoever asks is sure that it is right, only what its rows and the next state need is looked at again.
+    // `sure` is what the caller promises, and this promise names it.
     #[tactic(auto, using(crate::proofs::Laws::trim_inside, crate::proofs::Laws::step_right), unfolding(crate::specs::Step::step_of))]
     pub fn step(self, text: &[u8], sure: bool) -> Result<Step, Reason>
         requires { Sure sure (step_of self text.now) }

@@ -108,7 +108,7 @@ fn walk<I: Ink>(ink: &mut I, feed: &[u8], found: Found)
     let mut at = from;
     let mut first = true;
     let mut state = State::fresh(found.form);
-    // sure: the message is right, so that no line offends
+    // no iterator: each line is asked for with the state that the one before left; sure, since the message is right and no line offends
     'lines: while let Ok(Some(moved)) = judge::next_line(feed, at, at == from, state, true) {
         let step = moved.step;
         if 0 < step.count {
