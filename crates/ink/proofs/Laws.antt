@@ -1,19 +1,12 @@
 -- Laws of bytes put one behind the other.
 -- Assumes nothing.
 use mathlib.Core.Path.{◌≡◌, sym, ap, ◌∙◌, subst}
-use mathlib.Core.List.{List, [], ◌++◌, append_assoc}
-use Prim.Native.Nat.{ℕ, ◌+◌, ◌-◌, ◌≤◌}
+use mathlib.Core.List.{List, [], ◌++◌}
+use Prim.Native.Nat.{ℕ, ◌+◌, ◌≤◌}
 use native.Mathlib.Omega.{arith}
-use lib.ListN.{length, take, drop}
-use lib.Seq.{sets, sets-eq, drop-drop}
-use borrow.Rule.Slice.PartMut.{put_mid}
+use lib.ListN.{length, drop}
+use lib.Seq.{sets, sets-eq}
 use Rattle.ink.specs.Ink.{Lawful}
-
--- a part copied into its place is its bytes stored there
-pub copied : (o b : List ℕ) (n : ℕ) → n + length o ≤ length b → put_mid n (n + length o - n) b o ≡ sets b n o
-copied o b n h =
-    let k : n + length o - n ≡ length o = omega arith in
-    rw (k, drop-drop (length o) n b) (sym (sets-eq o b n h ∙ append_assoc (take n b) o (drop (n + length o) b)))
 
 -- all of it, in a buffer that has room for it
 pub put_whole : (o b : List ℕ) → length o ≤ length b → sets b 0 o ≡ o ++ drop (length o) b

@@ -78,11 +78,12 @@ impl<'a> Ink for Pen<'a> {
 
     ghost room = { Fits };
 
-    #[tactic(auto, using(crate::proofs::Laws::copied))]
+    // Byte by byte: copy_from_slice calls memmove of the C library, and this library needs no other.
     fn put(&mut self, bytes: &[u8]) {
-        let end = self.len + bytes.len();
-        self.buffer[self.len..end].copy_from_slice(bytes);
-        self.len = end;
+        for &byte in bytes {
+            self.buffer[self.len] = byte;
+            self.len += 1;
+        }
     }
 
     ghost laws = { pen_laws };
