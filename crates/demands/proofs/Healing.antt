@@ -14,8 +14,6 @@ use Rattle.lines.proofs.Lists.{lines_from_lem, lines_shift}
 use Rattle.step.specs.Step.{fresh_state, step_of}
 use Rattle.step.specs.declared.State.{State}
 use Rattle.judge.specs.Message.{is_heading, form_of, from_heading, headings, up_to, message_of, texts, judge_texts, judge_lines, feed_limit, judge_of, group_of, rows_at, rows_from, rows_lines, rows_of}
-use Rattle.judge.specs.declared.Judged.{Judged}
-use Rattle.judge.specs.declared.Judged.TheVariants.{Accepted, Refused}
 use Rattle.tables.specs.Table.{host_row, table_bytes}
 use Rattle.desk.specs.Placing.{top_load, desk_after, place_of, place_table}
 use Rattle.rows.specs.Filled.{room_for}
@@ -23,6 +21,10 @@ use Rattle.desk.specs.declared.Desk.{Desk}
 use Rattle.demands.proofs.Placing.{answer_free, desk_free, placing_fills}
 use Rattle.judge.specs.declared.Row.{Row}
 use Rattle.demands.specs.Healing.{moved_row, from_there, Healing, HealingPlaced}
+use Rattle.step.specs.declared.Step.{Step}
+use Rattle.reasons.specs.declared.Reason.{Reason}
+use Rattle.std.specs.Prelude.{Result, Ok, Err}
+use Rattle.judge.specs.declared.Refusal.{Refusal}
 
 -- ---- headings that stand before are passed
 
@@ -90,11 +92,24 @@ module _ (q : ℕ) where
   rows-moved : (ls : List Line) (st : State) (g line : ℕ) → rows_from st g line (mv ls) ≡ map (moved_row q) (rows_from st g line ls)
   unfolding rows_from
   rows-moved [] st g line = refl
-  rows-moved (l ∷ ls) st g line =
-      let x = step_of st l.text in
-      let h = group_of st.form g x.code in
-      ap₂ ◌++◌ (at_moved x.code h line l.start (take x.count x.spans)) (rows-moved ls x.state h (line + 1))
-      ∙ sym (map-append (rows_at x.code h line l.start (take x.count x.spans)) (rows_from x.state h (line + 1) ls))
+  rows-moved (l ∷ ls) st g line = go (step_of st l.text) (λ st' h. rows-moved ls st' h (line + 1))
+    where
+      go : (y : Result Step Reason)
+          → ((st' : State) (h : ℕ) → rows_from st' h (line + 1) (mv ls) ≡ map (moved_row q) (rows_from st' h (line + 1) ls))
+          → ◌≡◌ {A = List Row} (elim y [
+            | Err r ↦ rows_from st g (line + 1) (mv ls)
+            | Ok x ↦
+                rows_at x.code (group_of st.form g x.code) line (q + l.start) (take x.count x.spans) ++ rows_from x.state (group_of st.form g x.code) (line + 1) (mv ls)
+          ])
+          (map (moved_row q) (elim y [
+            | Err r ↦ rows_from st g (line + 1) ls
+            | Ok x ↦ rows_at x.code (group_of st.form g x.code) line l.start (take x.count x.spans) ++ rows_from x.state (group_of st.form g x.code) (line + 1) ls
+          ]))
+      go (Err r) ih = ih st g
+      go (Ok x) ih =
+          let h = group_of st.form g x.code in
+          ap₂ ◌++◌ (at_moved x.code h line l.start (take x.count x.spans)) (ih x.state h)
+          ∙ sym (map-append (rows_at x.code h line l.start (take x.count x.spans)) (rows_from x.state h (line + 1) ls))
 
   lines-moved : (ls : List Line) → rows_lines (mv ls) ≡ map (moved_row q) (rows_lines ls)
   unfolding rows_lines
@@ -130,14 +145,14 @@ healing f q limit s =
     }
 
 -- the count goes by the answer alone
-same_count : (d₁ d₂ : Desk) (j : Judged) → (desk_after d₁ j).count ≡ (desk_after d₂ j).count
+same_count : (d₁ d₂ : Desk) (j : Result ℕ Refusal) → (desk_after d₁ j).count ≡ (desk_after d₂ j).count
 unfolding desk_after
-same_count d₁ d₂ (Refused r l) = refl
-same_count d₁ d₂ (Accepted n) = refl
+same_count d₁ d₂ (Err e) = refl
+same_count d₁ d₂ (Ok n) = refl
 
 -- a table after an acceptance, by the rows that the message has
 table_by : (f : List ℕ) (k n : ℕ) (rs : List Row) → rows_of f k ≡ rs → (d : Desk) (t : List ℕ) → (d.load.0 ≡ top_load → ⊥)
-    → (place_of d f k (length t)).answer ≡ Accepted n → place_table d f k t ≡ table_bytes rs ++ drop (host_row * n) t
+    → (place_of d f k (length t)).answer ≡ Ok n → place_table d f k t ≡ table_bytes rs ++ drop (host_row * n) t
 table_by f k n rs r d t h e = (placing_fills d f k t n e).2 ∙ ap (λ (x : List Row). table_bytes x ++ drop (host_row * n) t) r
 
 pub healing_placed : HealingPlaced

@@ -13,8 +13,8 @@ use borrow.Author.Tests.{eqb-true, eqb-false, leb-true, ltb-true, ltb-false}
 use Rattle.grammar.specs.Rows.{pick}
 use Rattle.grammar.specs.Order.{next_of, allows}
 use Rattle.grammar.specs.declared.Next.{Next}
-use Rattle.grammar.specs.declared.Form.{Form}
-use Rattle.grammar.specs.declared.Form.TheVariants.{Opm, Oem}
+use Rattle.lines.specs.declared.Form.{Form}
+use Rattle.lines.specs.declared.Form.TheVariants.{Opm, Oem}
 use Rattle.grammar.proofs.Laws.{picks, below, next_all}
 use Rattle.step.specs.Step.{fits_here}
 use Rattle.step.specs.declared.State.{State}

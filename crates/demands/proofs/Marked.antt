@@ -10,15 +10,13 @@ use Rattle.words.specs.Words.{bytes, agrees, run, is_word}
 use Rattle.lines.specs.Feed.{last_line, lines_from, lines_before}
 use Rattle.lines.specs.Text.{cut_end, trim_of, heads, heading_of, word_ends, comment_of, sides_of, assignment_of, field_then, fields_from, field_more, gathered}
 use Rattle.values.specs.Number.{sign_len, is_exponent, ends_number, after_whole, is_number, digits_from, integer_top, is_integer}
-use Rattle.epochs.specs.declared.Epoch.TheVariants.{Bad}
 use Rattle.epochs.specs.Epoch.{is_leap, month_days, days_before, month_day, year_day, last_second, is_clock, is_fraction, timed_of, epoch_of, is_before}
 use Rattle.grammar.specs.Rows.{pick}
 use Rattle.keywords.specs.Keywords.{keywords, code_in}
 use Rattle.grammar.specs.Keywords.{keyword_of, is_unit}
 use Rattle.grammar.specs.Order.{next_of, allows}
-use Rattle.grammar.specs.declared.Form.{Form}
-use Rattle.grammar.specs.declared.Form.TheVariants.{Oem}
-use Rattle.grammar.specs.declared.Keyword.TheVariants.{Code}
+use Rattle.lines.specs.declared.Form.{Form}
+use Rattle.lines.specs.declared.Form.TheVariants.{Oem}
 use Rattle.grammar.proofs.Laws.{below, comes_only, next_only}
 use Rattle.step.specs.Step.{sixty_stands, is_timely, are_numbers, data_at, data_of, fields_of, past_whole, whole_of, number_of, past_time, is_early, time_of, value_of, assign_of, meta_code, meta_of, plain_of, past_comment, uncommented_of, filled_of, step_of}
 use Rattle.judge.specs.Message.{from_heading, headings, up_to, message_of, end_of, judge_texts, judge_lines, judge_of, group_of, rows_at, rows_from, rows_lines}
@@ -34,6 +32,7 @@ use Rattle.demands.specs.Degree.{Tied, Degree}
 use Rattle.demands.specs.Marked.{Marked}
 use Rattle.demands.specs.Healing.{Met}
 use Rattle.demands.specs.Refusals.{Refusals}
+use Rattle.std.specs.Prelude.{Some, None}
 
 -- membership by a test that computes
 unfoldable has : ℕ → List ℕ → Bool
@@ -56,7 +55,7 @@ unfolding bytes agrees is_leap month_days days_before month_day last_second is_c
 sixty-one true = refl
 sixty-one false = refl
 
-no_sixty : (v : List ℕ) (may : Bool) → v ≡ bytes sixty → may ≡ false → epoch_of v may ≡ Bad
+no_sixty : (v : List ℕ) (may : Bool) → v ≡ bytes sixty → may ≡ false → epoch_of v may ≡ None
 unfolding bytes agrees is_leap month_days days_before month_day last_second is_clock is_fraction timed_of epoch_of
 no_sixty v may e n = ap (λ (w : List ℕ). epoch_of w may) e ∙ ap (epoch_of (bytes sixty)) n
 
@@ -70,7 +69,7 @@ any_state = (
 
 -- ---- INTERPOLATION and its degree, in any state
 
-degree_named : (g : Form) (w : List ℕ) → g ≡ Oem → w ≡ bytes "INTERPOLATION_DEGREE" → keyword_of g w ≡ Code 43
+degree_named : (g : Form) (w : List ℕ) → g ≡ Oem → w ≡ bytes "INTERPOLATION_DEGREE" → keyword_of g w ≡ Some 43
 unfolding bytes agrees is_word keywords code_in pick keyword_of
 degree_named g w f e = rw (f, e)
 

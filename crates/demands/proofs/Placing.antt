@@ -10,9 +10,7 @@ use lib.ListN.{length}
 use borrow.Author.Tests.{eqb-true, eqb-false, ltb-true, ltb-false}
 use Rattle.reasons.specs.Reasons.{reason_no}
 use Rattle.reasons.specs.declared.Reason.{Reason}
-use Rattle.judge.specs.Message.{judge_of}
-use Rattle.judge.specs.declared.Judged.{Judged}
-use Rattle.judge.specs.declared.Judged.TheVariants.{Accepted, Refused}
+use Rattle.judge.specs.Message.{judge_of, refused}
 use Rattle.tables.specs.Table.{host_row}
 use Rattle.desk.specs.Placing.{top_load, desk_after, place_of}
 use Rattle.rows.specs.Filled.{room_for, table_after}
@@ -23,6 +21,8 @@ use Rattle.rows.proofs.Fills.{no_room, room_enough, room-right}
 use Rattle.desk.proofs.Reading.{place_spent, place_answer, read_gone}
 use Rattle.demands.proofs.Why.{refused_same, judging-plain}
 use Rattle.demands.specs.Placing.{ticket, RefusedKeeps, SpentKeeps, Host, Call, judging, placing, placed_for, after, EarlierGone, placings, PreviewKeeps, AsJudged, PlacingJudges, PlacingFills}
+use Rattle.std.specs.Prelude.{Result, Ok, Err}
+use Rattle.judge.specs.declared.Refusal.{Refusal}
 
 module _ (d : Desk) (f : List ℕ) (k bytes : ℕ) where
   -- placing that is not refused as spent
@@ -33,7 +33,7 @@ module _ (d : Desk) (f : List ℕ) (k bytes : ℕ) where
   pub answer_free : (d.load.0 ≡ top_load → ⊥) → (place_of d f k bytes).answer ≡ room_for bytes (judge_of f k)
   answer_free h = ap (λ (x : Placed). x.answer) (place_free h)
 
-  pub desk_free : (d.load.0 ≡ top_load → ⊥) → (j : Judged) → (place_of d f k bytes).answer ≡ j → (place_of d f k bytes).desk ≡ desk_after d j
+  pub desk_free : (d.load.0 ≡ top_load → ⊥) → (j : Result ℕ Refusal) → (place_of d f k bytes).answer ≡ j → (place_of d f k bytes).desk ≡ desk_after d j
   desk_free h j e = ap (λ (x : Placed). x.desk) (place_free h) ∙ ap (desk_after d) (sym (answer_free h) ∙ e)
 
 pub refused_keeps : RefusedKeeps
@@ -44,10 +44,10 @@ pub spent_keeps : SpentKeeps
 unfolding table_after
 spent_keeps d f k t e = (rw (place_spent d f k (length t) e), place_spent d f k (length t) e)
 
-one_higher : (d : Desk) (j : Judged) → d.load.0 < (desk_after d j).load.0
+one_higher : (d : Desk) (j : Result ℕ Refusal) → d.load.0 < (desk_after d j).load.0
 unfolding desk_after
-one_higher d (Refused r l) = omega arith
-one_higher d (Accepted n) = omega arith
+one_higher d (Err e) = omega arith
+one_higher d (Ok n) = omega arith
 
 -- no placing lowers the number, and one that is not refused as spent raises it
 raises : (d : Desk) (f : List ℕ) (k bytes : ℕ) → d.load.0 < top_load → d.load.0 < (place_of d f k bytes).desk.load.0
@@ -94,15 +94,15 @@ placing_fills d f k t n e =
     ((room-right (length t) (judge_of f k) n (sym e ∙ answer_free d f k (length t) h)).0, desk_free d f k (length t) h _ e, rw e)
 
 -- two acceptances that are the same
-rows_same : {m n : ℕ} → Accepted m ≡ Accepted n → m ≡ n
+rows_same : {m n : ℕ} → ◌≡◌ {A = Result ℕ Refusal} (Ok m) (Ok n) → m ≡ n
 rows_same e = cc
 
 module _ (d : Desk) (f : List ℕ) (k bytes : ℕ) where
-  abbrev answer : Judged
+  abbrev answer : Result ℕ Refusal
   answer = (place_of d f k bytes).answer
 
   -- two reasons of one answer have one number
-  one_number : {q r : Reason} {m n : ℕ} → answer ≡ Refused q m → answer ≡ Refused r n → reason_no q ≡ reason_no r
+  one_number : {q r : Reason} {m n : ℕ} → answer ≡ refused q m → answer ≡ refused r n → reason_no q ≡ reason_no r
   one_number e w = ap reason_no (refused_same (sym e ∙ w)).0
 
   as_spent : d.load.0 ≡ top_load → AsJudged d f k bytes
@@ -115,17 +115,17 @@ module _ (d : Desk) (f : List ℕ) (k bytes : ℕ) where
       }
 
   module _ (h : d.load.0 ≡ top_load → ⊥) where
-    as_refused : (r : Reason) (l : ℕ) → judge_of f k ≡ Refused r l → AsJudged d f k bytes
+    as_refused : (r : Reason) (l : ℕ) → judge_of f k ≡ refused r l → AsJudged d f k bytes
     unfolding room_for
     as_refused r l q =
-        let e : answer ≡ Refused r l = answer_free d f k bytes h ∙ rw q in
+        let e : answer ≡ refused r l = answer_free d f k bytes h ∙ rw q in
         record {
           spent = (λ w. absurd (omega (arith, one_number e w, judging-plain f k r l q)), λ w. absurd (h w));
           no_room = (λ w. absurd (omega (arith, one_number e w, judging-plain f k r l q)), λ w. absurd (not_both w.1.1 q));
           judged = λ a b. e ∙ sym q;
         }
 
-    as_accepted : (n : ℕ) → judge_of f k ≡ Accepted n → AsJudged d f k bytes
+    as_accepted : (n : ℕ) → judge_of f k ≡ Ok n → AsJudged d f k bytes
     as_accepted n q = go (ltb bytes (host_row * n)) refl
       where
         go : (t : Bool) → ltb bytes (host_row * n) ≡ t → AsJudged d f k bytes
@@ -145,9 +145,9 @@ module _ (d : Desk) (f : List ℕ) (k bytes : ℕ) where
 pub placing_judges : PlacingJudges
 placing_judges d f k t = go (eqb d.load.0 top_load) refl
   where
-    free : (d.load.0 ≡ top_load → ⊥) → (j : Judged) → judge_of f k ≡ j → AsJudged d f k (length t)
-    free h (Refused r l) q = as_refused d f k (length t) h r l q
-    free h (Accepted n) q = as_accepted d f k (length t) h n q
+    free : (d.load.0 ≡ top_load → ⊥) → (j : Result ℕ Refusal) → judge_of f k ≡ j → AsJudged d f k (length t)
+    free h (Err e) q = as_refused d f k (length t) h e.reason e.line q
+    free h (Ok n) q = as_accepted d f k (length t) h n q
 
     go : (b : Bool) → eqb d.load.0 top_load ≡ b → AsJudged d f k (length t)
     go true q = as_spent d f k (length t) (eqb-true _ _ q)

@@ -1,9 +1,9 @@
 -- Each row of a message in a feed within the limit has five small numbers, and its span lies in the feed.
 -- Assumes nothing.
 use Prim.Native.Nat.{ℕ, zero, suc, ◌+◌, ◌-◌, ◌≤◌, ◌<◌}
-use mathlib.Core.Path.{◌≡◌}
+use mathlib.Core.Path.{◌≡◌, refl}
 use mathlib.Core.Bool.{Bool, true, false, not, ◌&&◌}
-use mathlib.Core.List.{List, [], ◌∷◌}
+use mathlib.Core.List.{List, [], ◌∷◌, ◌++◌}
 use native.Mathlib.Nat.{not-suc-le-zero}
 use native.Mathlib.Omega.{arith}
 use lib.Dec.{eqb}
@@ -16,7 +16,9 @@ use Rattle.lines.specs.Text.{no_span}
 use Rattle.lines.specs.declared.Span.{Span}
 use Rattle.lines.proofs.Laws.{end-le}
 use Rattle.lines.proofs.Lists.{lines_next, lines_end, len_some}
-use Rattle.step.specs.Step.{Inside, fresh_state, step_of}
+use Rattle.std.specs.Prelude.{Result, Ok, Err}
+use Rattle.reasons.specs.declared.Reason.{Reason}
+use Rattle.step.specs.Step.{Inside, fresh_state, no_row, one_row, seven_rows, step_of}
 use Rattle.step.specs.declared.State.{State}
 use Rattle.step.specs.declared.Step.{Step}
 use Rattle.step.proofs.Sound.{Good, offence, none, one, seven, step_good}
@@ -130,25 +132,36 @@ module _ (n : ℕ) (limit : n ≤ feed_limit) where
     at_held s at h g line hg hl ps (c + 1) (omega arith) i.1,
   )
 
-  step_held : (s : List ℕ) (x : Step) → Good s x → (at : ℕ) → at + length s ≤ n → (g line : ℕ) → g ≤ feed_limit → line ≤ feed_limit
-      → Each (Held n) (rows_at x.code g line at (take x.count x.spans))
+  -- what a right line has, and nothing for one that offends
+  step_held : (s : List ℕ) {y : Result Step Reason} → Good s y → (x : Step) → y ≡ Ok x → (at : ℕ) → at + length s ≤ n → (g line : ℕ) → g ≤ feed_limit
+      → line ≤ feed_limit → Each (Held n) (rows_at x.code g line at (take x.count x.spans))
   unfolding rows_at
-  step_held s _ (offence st r _) at h g line hg hl = tt
-  step_held s _ (none st) at h g line hg hl = tt
-  step_held s _ (one st c p hc i) at h g line hg hl = at_held s at h g line hg hl (p ∷ []) c (omega arith) (i, tt)
-  step_held s _ (seven st ps i) at h g line hg hl =
-      let e : take 7 ps ≡ ps = take_all 7 ps (omega (arith, i.size)) in
-      rw e (at_held s at h g line hg hl ps 9 (omega (arith, i.size)) (each_at (λ p. Inside p s) no_span ps i.inside))
+  step_held s (offence r _) x e at h g line hg hl = cc
+  step_held s (none st) x e at h g line hg hl = let q : no_row st ≡ x = cc in rw (← q) tt
+  step_held s (one st c p hc i) x e at h g line hg hl =
+      let q : one_row st c p ≡ x = cc in
+      rw (← q) (at_held s at h g line hg hl (p ∷ []) c (omega arith) (i, tt))
+  step_held s (seven st ps i) x e at h g line hg hl =
+      let q : seven_rows st ps ≡ x = cc in
+      let z : take 7 ps ≡ ps = take_all 7 ps (omega (arith, i.size)) in
+      rw (← q) (rw z (at_held s at h g line hg hl ps 9 (omega (arith, i.size)) (each_at (λ p. Inside p s) no_span ps i.inside)))
 
   rows-held : (ls : List Line) (st : State) (g line : ℕ) → g < line → line + length ls ≤ feed_limit + 1 → Each (LineIn n) ls → Each (Held n) (rows_from st g line ls)
   unfolding rows_from
   rows-held [] st g line hg hl h = tt
-  rows-held (l ∷ ls) st g line hg hl h =
-      let x = step_of st l.text in
-      let q = group_le st.form g x.code in
-      each_append (Held n) (rows_at x.code (group_of st.form g x.code) line l.start (take x.count x.spans)) _
-      (step_held l.text x (step_good l.text st) l.start h.0 (group_of st.form g x.code) line (omega arith) (omega arith))
-      (rows-held ls x.state (group_of st.form g x.code) (line + 1) (omega arith) (omega arith) h.1)
+  rows-held (l ∷ ls) st g line hg hl h = go (step_of st l.text) refl (λ st' k z. rows-held ls st' k (line + 1) z (omega arith) h.1)
+    where
+      go : (y : Result Step Reason) → step_of st l.text ≡ y → ((st' : State) (k : ℕ) → k < line + 1 → Each (Held n) (rows_from st' k (line + 1) ls))
+          → Each (Held n) (elim y [
+            | Err r ↦ rows_from st g (line + 1) ls
+            | Ok x ↦ rows_at x.code (group_of st.form g x.code) line l.start (take x.count x.spans) ++ rows_from x.state (group_of st.form g x.code) (line + 1) ls
+          ])
+      go (Err r) e ih = ih st g (omega arith)
+      go (Ok x) e ih =
+          let q = group_le st.form g x.code in
+          each_append (Held n) (rows_at x.code (group_of st.form g x.code) line l.start (take x.count x.spans)) _
+          (step_held l.text (step_good l.text st) x e l.start h.0 (group_of st.form g x.code) line (omega arith) (omega arith))
+          (ih x.state (group_of st.form g x.code) (omega arith))
 
   lines-held : (ls : List Line) → Lines n n ls → Each (Held n) (rows_lines ls)
   unfolding rows_lines

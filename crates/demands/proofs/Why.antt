@@ -14,15 +14,11 @@ use Rattle.lines.specs.Feed.{Line, lines}
 use Rattle.grammar.specs.Order.{next_of}
 use Rattle.step.specs.Step.{fresh_state, fits_here, step_of}
 use Rattle.step.specs.declared.State.{State}
-use Rattle.step.specs.declared.Verdict.{Verdict}
-use Rattle.step.specs.declared.Verdict.TheVariants.{Right, Wrong}
 use Rattle.step.proofs.Sound.{OfLine, of_line}
 use Rattle.reasons.specs.Reasons.{reason_no}
 use Rattle.reasons.specs.declared.Reason.{Reason}
 use Rattle.reasons.specs.declared.Reason.TheVariants as Reasons
-use Rattle.judge.specs.Message.{is_heading, form_of, from_heading, up_to, message_of, texts, end_of, judge_texts, judge_lines, judge_of, feed_limit}
-use Rattle.judge.specs.declared.Judged.{Judged}
-use Rattle.judge.specs.declared.Judged.TheVariants.{Accepted, Refused}
+use Rattle.judge.specs.Message.{is_heading, form_of, from_heading, up_to, message_of, texts, end_of, judge_texts, judge_lines, judge_of, feed_limit, refused}
 use Rattle.judge.proofs.Laws.{from_none, not_both}
 use Rattle.write.proofs.Names.{form_kept}
 use Rattle.explain.specs.Codes.{can_begin, no_codes, codes_of, codes_for}
@@ -35,6 +31,9 @@ use Rattle.rows.specs.Filled.{room_for}
 use Rattle.demands.proofs.Listed.{codes_packed, codes_exactly, codes_rising}
 use Rattle.demands.specs.Placing.{JudgingPlain}
 use Rattle.demands.specs.Why.{SameReason, state_after, form_in, state_before, listed_in, ListedExactly, no_line, start_or, InTheLine, Rising, InOrder}
+use Rattle.step.specs.declared.Step.{Step}
+use Rattle.std.specs.Prelude.{Result, Ok, Err}
+use Rattle.judge.specs.declared.Refusal.{Refusal}
 
 nil-cons : {A : Type 0} {x : A} {xs : List A} → [] ≡ x ∷ xs → ⊥
 nil-cons e = let z : ◌≡◌ {A = ℕ} 0 1 = cc in omega arith
@@ -42,9 +41,9 @@ nil-cons e = let z : ◌≡◌ {A = ℕ} 0 1 = cc in omega arith
 -- ---- what an explanation can be: of an acceptance, at the message's end e, or at a line; ms are the message's lines from here on
 
 data Way (e : ℕ) (st : State) (line : ℕ) (ms : List Line) : Explained → Type 0 where
-  accepted : (m : ℕ) → Way e st line ms (plainly (Accepted m))
+  accepted : (m : ℕ) → Way e st line ms (plainly (Ok m))
   short : (n : ℕ) → n ≡ line + length ms → (state_after st (texts ms)).form ≡ st.form
-      → Way e st line ms (record { judged = Refused Reasons.Short n; start = e; length = 0; listed = codes_of (state_after st (texts ms)) })
+      → Way e st line ms (record { judged = refused Reasons.Short n; start = e; length = 0; listed = codes_of (state_after st (texts ms)) })
   blame : (i n : ℕ) (r : Reason) → n ≡ line + i → i < length ms → OfLine r → (state_after st (take i (texts ms))).form ≡ st.form
       → Way e st line ms (blamed (state_after st (take i (texts ms))) n (get_or ms i no_line) r)
 
@@ -53,25 +52,29 @@ unfolding ended state_after
 ended_way st e line rows = go (next_of st.form st.last).end
   where
     go : (t : Bool)
-        → Way e st line [] (elim t [ true ↦ plainly (Accepted rows) | false ↦ record { judged = Refused Reasons.Short line; start = e; length = 0; listed = codes_of st } ])
+        → Way e st line [] (elim t [ true ↦ plainly (Ok rows) | false ↦ record { judged = refused Reasons.Short line; start = e; length = 0; listed = codes_of st } ])
     go true = accepted rows
     go false = short line (omega arith) refl
 
 module _ (st : State) (e line : ℕ) (l : Line) (ms : List Line) where
-  on_way : (step_of st l.text).verdict ≡ Right → {y : Explained} → Way e (step_of st l.text).state (line + 1) ms y → Way e st line (l ∷ ms) y
+  on_way : (x : Step) → step_of st l.text ≡ Ok x → {y : Explained} → Way e x.state (line + 1) ms y → Way e st line (l ∷ ms) y
   unfolding state_after
-  on_way v (accepted m) = accepted m
-  on_way v (short n q h) = short n (omega arith) (h ∙ form_kept st l.text v)
-  on_way v (blame i n r q b o h) = blame (suc i) n r (omega arith) (omega arith) o (h ∙ form_kept st l.text v)
+  on_way x v (accepted m) = accepted m
+  on_way x v (short n q h) =
+      let same : state_after st (texts (l ∷ ms)) ≡ state_after x.state (texts ms) = rw (v, state_after) in
+      rw (← same) (short n (omega arith) (rw same (h ∙ form_kept st l.text x v)))
+  on_way x v (blame i n r q b o h) =
+      let same : state_after st (take (suc i) (texts (l ∷ ms))) ≡ state_after x.state (take i (texts ms)) = rw (v, state_after) in
+      rw (← same) (blame (suc i) n r (omega arith) (omega arith) o (rw same (h ∙ form_kept st l.text x v)))
 
-  line_way : (y : Explained) → Way e (step_of st l.text).state (line + 1) ms y
-      → Way e st line (l ∷ ms) (elim (step_of st l.text).verdict [ Wrong r ↦ blamed st line l r | Right ↦ y ])
+  line_way : (rest : Step → Explained) → ((x : Step) → Way e x.state (line + 1) ms (rest x))
+      → Way e st line (l ∷ ms) (elim (step_of st l.text) [ Err r ↦ blamed st line l r | Ok x ↦ rest x ])
   unfolding state_after
-  line_way y w = go (step_of st l.text).verdict refl
+  line_way rest w = go (step_of st l.text) refl
     where
-      go : (v : Verdict) → (step_of st l.text).verdict ≡ v → Way e st line (l ∷ ms) (elim v [ Wrong r ↦ blamed st line l r | Right ↦ y ])
-      go (Wrong r) q = blame 0 line r (omega arith) (omega arith) (of_line st l.text r q) refl
-      go Right q = on_way q w
+      go : (y : Result Step Reason) → step_of st l.text ≡ y → Way e st line (l ∷ ms) (elim y [ Err r ↦ blamed st line l r | Ok x ↦ rest x ])
+      go (Err r) q = blame 0 line r (omega arith) (omega arith) (of_line st l.text r q) refl
+      go (Ok x) q = on_way x q (w x)
 
 -- where a message ends
 unfoldable end_in : ℕ → Bool → List Line → ℕ
@@ -83,11 +86,11 @@ way : (n : ℕ) (ls : List Line) (first : Bool) (st : State) (line rows : ℕ)
 unfolding end_in up_to explain_from
 way n [] first st line rows = ended_way st n line rows
 way n (l ∷ ls) first st line rows =
-    let x = step_of st l.text in
-    go (not first && is_heading l.text) (line_way st (end_in n false ls) line l (up_to false ls) _ (way n ls false x.state (line + 1) (rows + x.count)))
+    go (not first && is_heading l.text)
+    (line_way st (end_in n false ls) line l (up_to false ls) (λ x. explain_from n false x.state (line + 1) (rows + x.count) ls) (λ x. way n ls false x.state (line + 1) (rows + x.count)))
   where
-    go : (t : Bool) → let x = step_of st l.text in
-        let y : Explained = elim x.verdict [ Wrong r ↦ blamed st line l r | Right ↦ explain_from n false x.state (line + 1) (rows + x.count) ls ] in
+    go : (t : Bool)
+        → let y : Explained = elim (step_of st l.text) [ Err r ↦ blamed st line l r | Ok x ↦ explain_from n false x.state (line + 1) (rows + x.count) ls ] in
         Way (end_in n false ls) st line (l ∷ up_to false ls) y
         → Way (elim t [ true ↦ l.start | false ↦ end_in n false ls ]) st line (elim t [ true ↦ [] | false ↦ l ∷ up_to false ls ]) (elim t [ true ↦ ended st l.start line rows | false ↦ y ])
     go true w = ended_way st l.start line rows
@@ -129,7 +132,7 @@ from_next k (a ∷ ls) l ms e = go (is_heading a.text) (eqb k 1) refl (from_next
 
 abbrev Story : List ℕ → ℕ → Explained → Type 0
 Story f k x =
-    ((r : Reason) × (reason_no r ≤ 2) × (x ≡ plainly (Refused r 0)))
+    ((r : Reason) × (reason_no r ≤ 2) × (x ≡ plainly (refused r 0)))
     ⊎ Way (start_or (length f) (from_heading (k + 1) (lines f))) (fresh_state (form_in (message_of k f))) 1 (message_of k f) x
 
 story : (f : List ℕ) (k : ℕ) → Story f k (explain_of f k)
@@ -141,7 +144,7 @@ story f k = go (ltb feed_limit (length f))
     found (l ∷ ls) q =
         inr (rw (q, from_next k (lines f) l ls q, ← end_next (length f) ls) (way (length f) (l ∷ ls) true (fresh_state (form_of l.text)) 1 0))
 
-    go : (t : Bool) → Story f k (elim t [ true ↦ plainly (Refused Reasons.FeedLong 0) | false ↦ explain_lines (length f) (from_heading k (lines f)) ])
+    go : (t : Bool) → Story f k (elim t [ true ↦ plainly (refused Reasons.FeedLong 0) | false ↦ explain_lines (length f) (from_heading k (lines f)) ])
     go true = inl (Reasons.FeedLong, omega arith, refl)
     go false = found (from_heading k (lines f)) refl
 
@@ -151,40 +154,24 @@ unfolding ended end_of
 end-judged st n line rows = go (next_of st.form st.last).end
   where
     go : (t : Bool)
-        → (elim t as (λ z. Explained) [ true ↦ plainly (Accepted rows) | false ↦ record { judged = Refused Reasons.Short line; start = n; length = 0; listed = codes_of st } ]).judged
-        ≡ elim t [ true ↦ Accepted rows | false ↦ Refused Reasons.Short line ]
+        → (elim t as (λ z. Explained) [ true ↦ plainly (Ok rows) | false ↦ record { judged = refused Reasons.Short line; start = n; length = 0; listed = codes_of st } ]).judged
+        ≡ elim t [ true ↦ Ok rows | false ↦ refused Reasons.Short line ]
     go true = refl
     go false = refl
 
-module _ (n : ℕ) (st : State) (line rows : ℕ) (l : Line) (ls : List Line) where
-  abbrev later : Explained
-  later = let x = step_of st l.text in explain_from n false x.state (line + 1) (rows + x.count) ls
-
-  abbrev judged_later : Judged
-  judged_later = let x = step_of st l.text in judge_texts x.state (line + 1) (rows + x.count) (texts (up_to false ls))
-
-  line-judged : later.judged ≡ judged_later → (v : Verdict)
-      → (elim v as (λ z. Explained) [ Wrong r ↦ blamed st line l r | Right ↦ later ]).judged ≡ elim v [ Wrong r ↦ Refused r line | Right ↦ judged_later ]
-  unfolding blamed
-  line-judged h (Wrong r) = refl
-  line-judged h Right = h
-
 judged_from : (n : ℕ) (ls : List Line) (first : Bool) (st : State) (line rows : ℕ)
     → (explain_from n first st line rows ls).judged ≡ judge_texts st line rows (texts (up_to first ls))
-unfolding explain_from up_to judge_texts
+unfolding explain_from up_to judge_texts blamed
 judged_from n [] first st line rows = end-judged st n line rows
 judged_from n (l ∷ ls) first st line rows =
-    let x = step_of st l.text in
-    go (not first && is_heading l.text) (judged_from n ls false x.state (line + 1) (rows + x.count))
+    go (not first && is_heading l.text) refl (step_of st l.text) refl (λ st' line' rows'. judged_from n ls false st' line' rows')
   where
-    go : (t : Bool) → (later n st line rows l ls).judged ≡ judged_later n st line rows l ls
-        → (elim t as (λ z. Explained) [
-          | true ↦ ended st l.start line rows
-          | false ↦ elim (step_of st l.text).verdict [ Wrong r ↦ blamed st line l r | Right ↦ later n st line rows l ls ]
-        ]).judged
-        ≡ judge_texts st line rows (texts (elim t [ true ↦ [] | false ↦ l ∷ up_to false ls ]))
-    go true h = end-judged st l.start line rows
-    go false h = line-judged n st line rows l ls h (step_of st l.text).verdict
+    go : (t : Bool) → not first && is_heading l.text ≡ t → (y : Result Step Reason) → step_of st l.text ≡ y
+        → ((st' : State) (line' rows' : ℕ) → (explain_from n false st' line' rows' ls).judged ≡ judge_texts st' line' rows' (texts (up_to false ls)))
+        → (explain_from n first st line rows (l ∷ ls)).judged ≡ judge_texts st line rows (texts (up_to first (l ∷ ls)))
+    go true z y k ih = rw (z, explain_from, up_to) (end-judged st l.start line rows)
+    go false z (Err r) k ih = rw (z, explain_from, up_to) (rw (k, explain_from, judge_texts))
+    go false z (Ok x) k ih = rw (z, explain_from, up_to) (rw (k, explain_from, judge_texts) (ih x.state (line + 1) (rows + x.count)))
 
 judged_same : (f : List ℕ) (k : ℕ) → (explain_of f k).judged ≡ judge_of f k
 unfolding explain_of judge_of explain_lines judge_lines message_of up_to
@@ -195,17 +182,17 @@ judged_same f k = go (ltb feed_limit (length f))
     found (l ∷ ls) = judged_from (length f) (l ∷ ls) true (fresh_state (form_of l.text)) 1 0
 
     go : (t : Bool)
-        → (elim t as (λ z. Explained) [ true ↦ plainly (Refused Reasons.FeedLong 0) | false ↦ explain_lines (length f) (from_heading k (lines f)) ]).judged
-        ≡ elim t [ true ↦ Refused Reasons.FeedLong 0 | false ↦ judge_lines (up_to true (from_heading k (lines f))) ]
+        → (elim t as (λ z. Explained) [ true ↦ plainly (refused Reasons.FeedLong 0) | false ↦ explain_lines (length f) (from_heading k (lines f)) ]).judged
+        ≡ elim t [ true ↦ refused Reasons.FeedLong 0 | false ↦ judge_lines (up_to true (from_heading k (lines f))) ]
     go true = refl
     go false = found (from_heading k (lines f))
 
 -- ---- the theorems
 
-room_stays : (bytes : ℕ) (j : Judged) → ((n : ℕ) → j ≡ Accepted n → host_row * n ≤ bytes) → room_for bytes j ≡ j
+room_stays : (bytes : ℕ) (j : Result ℕ Refusal) → ((n : ℕ) → j ≡ Ok n → host_row * n ≤ bytes) → room_for bytes j ≡ j
 unfolding room_for
-room_stays bytes (Refused r l) h = refl
-room_stays bytes (Accepted n) h = rw (le-ltb _ _ (h n refl), room_for)
+room_stays bytes (Err e) h = refl
+room_stays bytes (Ok n) h = rw (le-ltb _ _ (h n refl), room_for)
 
 pub same_reason : SameReason
 unfolding place_of
@@ -221,8 +208,10 @@ unfolding codes_for
 codes_other st r e = rw (ne_eqb _ _ e, codes_for)
 
 -- two refusals that are the same
-pub refused_same : {q r : Reason} {m n : ℕ} → Refused q m ≡ Refused r n → (q ≡ r) × (m ≡ n)
-refused_same e = (cc, cc)
+pub refused_same : {q r : Reason} {m n : ℕ} → refused q m ≡ refused r n → (q ≡ r) × (m ≡ n)
+refused_same {q} {r} {m} {n} e =
+    let z : ◌≡◌ {A = Refusal} (record { reason = q; line = m }) (record { reason = r; line = n }) = cc in
+    (ap (λ (x : Refusal). x.reason) z, ap (λ (x : Refusal). x.line) z)
 
 module _ (f : List ℕ) (k : ℕ) where
   abbrev ms : List Line
@@ -253,9 +242,9 @@ module _ (f : List ℕ) (k : ℕ) where
   state_line : (i m : ℕ) → m ≡ 1 + i → state_after st₀ (take i (texts ms)) ≡ state_before f k m
   state_line i m q = let j : i ≡ m - 1 = omega arith in ap (λ (n : ℕ). state_after st₀ (take n (texts ms))) j
 
-  listed_way : (r : Reason) (n : ℕ) {x : Explained} → Way end st₀ 1 ms x → x.judged ≡ Refused r n → Listed r n x
+  listed_way : (r : Reason) (n : ℕ) {x : Explained} → Way end st₀ 1 ms x → x.judged ≡ refused r n → Listed r n x
   unfolding blamed
-  listed_way r n (accepted m) e = absurd (not_both {j = Accepted m} refl e)
+  listed_way r n (accepted m) e = absurd (not_both {j = Ok m} refl e)
   listed_way r n (short m q h) e =
       let z = refused_same e in
       rw (← z.0, ← z.1) (λ w. exactly m _ (state_end m q) h, λ a b. absurd (b refl))
@@ -272,9 +261,9 @@ module _ (f : List ℕ) (k : ℕ) where
       → let l = get_or ms (n - 1) no_line in (1 ≤ n) × (n ≤ length ms) × (l.start ≤ x.start) × (x.start + x.length ≤ l.start + length l.text))
       × (reason_no r ≡ 11 → (n ≡ length ms + 1) × (x.start ≡ end) × (x.length ≡ 0))
 
-  lies_way : (r : Reason) (n : ℕ) {x : Explained} → Way end st₀ 1 ms x → x.judged ≡ Refused r n → Lies r n x
+  lies_way : (r : Reason) (n : ℕ) {x : Explained} → Way end st₀ 1 ms x → x.judged ≡ refused r n → Lies r n x
   unfolding blamed
-  lies_way r n (accepted m) e = absurd (not_both {j = Accepted m} refl e)
+  lies_way r n (accepted m) e = absurd (not_both {j = Ok m} refl e)
   lies_way r n (short m q h) e =
       let z = refused_same e in
       rw (← z.0, ← z.1) (λ a b. absurd (omega (arith, b)), λ w. (omega arith, refl, refl))
@@ -298,7 +287,7 @@ module _ (f : List ℕ) (k : ℕ) where
       go false = tt
 
 -- a refusal with nothing to explain
-module _ (r : Reason) (n : ℕ) (x : Explained) (e : x.judged ≡ Refused r n) (w : (q : Reason) × (reason_no q ≤ 2) × (x ≡ plainly (Refused q 0))) where
+module _ (r : Reason) (n : ℕ) (x : Explained) (e : x.judged ≡ refused r n) (w : (q : Reason) × (reason_no q ≤ 2) × (x ≡ plainly (refused q 0))) where
   early : reason_no r ≤ 2
   early = rw (refused_same (sym (ap (λ (y : Explained). y.judged) w.2) ∙ e)).0 at w.1
 
@@ -313,9 +302,9 @@ in_the_line f k r n e =
     ⊎_elim (λ w. let h = early r n _ e w in (λ a b. absurd (omega arith), λ z. absurd (omega arith))) (λ w. lies_way f k r n w e) (story f k)
 
 -- and so which reasons judging gives
-plain_way : (r : Reason) (n : ℕ) {e line : ℕ} {st : State} {ms : List Line} {x : Explained} → Way e st line ms x → x.judged ≡ Refused r n → reason_no r ≤ 11
+plain_way : (r : Reason) (n : ℕ) {e line : ℕ} {st : State} {ms : List Line} {x : Explained} → Way e st line ms x → x.judged ≡ refused r n → reason_no r ≤ 11
 unfolding blamed
-plain_way r n (accepted m) e = absurd (not_both {j = Accepted m} refl e)
+plain_way r n (accepted m) e = absurd (not_both {j = Ok m} refl e)
 plain_way r n (short m q h) e = rw (← (refused_same e).0) (omega arith)
 plain_way r n (blame i m t q b o h) e = rw (← (refused_same e).0) (omega (arith, o.1))
 

@@ -17,12 +17,11 @@ use Rattle.tables.specs.Hearing.{span_of, row_heard}
 use Rattle.tables.specs.Widths.{entries_in, rewritten, copied, some_wide, widen_of, made_by, widened, narrow_of, narrowed}
 use Rattle.reasons.specs.declared.Reason.{Reason}
 use Rattle.reasons.specs.declared.Reason.TheVariants as Reasons
-use Rattle.tables.specs.declared.Resized.{Resized}
-use Rattle.tables.specs.declared.Resized.TheVariants.{Done, Refused}
 use Rattle.tables.proofs.Entries.{reach, number_past, number_back}
 use Rattle.tables.proofs.Hearing.{row_out, row_in}
 use Rattle.tables.proofs.Copies.{rewritten-length, widen_unlike, widen_done, narrow_unlike, narrow_wide, narrow_done}
 use Rattle.demands.specs.Widths.{Bytes, AsMany, WidenedReads, NarrowedBack, WideExactly, UnequalExactly, RefusedLeaves}
+use Rattle.std.specs.Prelude.{Result, Ok, Err, ⊤}
 
 -- ---- an entry's number and its bytes, over the width
 
@@ -96,7 +95,7 @@ at_some (suc k) u i j a h e = go (ltb 65535 (entry_at host_width u i)) refl (at_
 
 -- ---- the answers
 
-even : (t u : List ℕ) → widen_of t u ≡ Done → AsMany t u
+even : (t u : List ℕ) → widen_of t u ≡ Ok tt → AsMany t u
 even t u e = go (eqb (entries_in recorded_width t) (entries_in host_width u)) refl
   where
     go : (b : Bool) → eqb (entries_in recorded_width t) (entries_in host_width u) ≡ b → AsMany t u
@@ -104,7 +103,7 @@ even t u e = go (eqb (entries_in recorded_width t) (entries_in host_width u)) re
     go false q = let z : ◌≡◌ {A = ℕ} 0 1 = cc (widen_unlike t u q).0 in absurd (omega arith)
 
 -- a table that was widened
-module _ (t u : List ℕ) (b : Bytes t) (e : widen_of t u ≡ Done) where
+module _ (t u : List ℕ) (b : Bytes t) (e : widen_of t u ≡ Ok tt) where
   abbrev w : List ℕ
   w = copied recorded_width host_width t u
 
@@ -148,7 +147,7 @@ widened_reads t u b e n f = rw (is t u b e) (heard_same t u b e n f)
 
 -- ---- and narrowed back
 
-module _ (t u : List ℕ) (b : Bytes t) (e : widen_of t u ≡ Done) where
+module _ (t u : List ℕ) (b : Bytes t) (e : widen_of t u ≡ Ok tt) where
   abbrev v : List ℕ
   v = copied recorded_width host_width t u
 
@@ -175,7 +174,7 @@ module _ (t u : List ℕ) (b : Bytes t) (e : widen_of t u ≡ Done) where
       rw (back k (omega arith), x, y, z) (sym (take-add (2 * k) 2 t))
 
   narrowed_by : (s : List ℕ) → entries_in recorded_width s ≡ entries_in recorded_width t → let n = recorded_width * entries_in recorded_width t in
-      (Done ≡ narrow_of (widened t u) s) × (take n t ++ drop n s ≡ narrowed (widened t u) s)
+      (Ok tt ≡ narrow_of (widened t u) s) × (take n t ++ drop n s ≡ narrowed (widened t u) s)
   narrowed_by s m = rw (is t u b e) (narrow_done s v (eq-eqb _ _ (m ∙ sym many)) (sym none_wide) _ (rw many (rw (back (entries_in recorded_width t) (omega arith)))))
 
 pub narrowed_back : NarrowedBack
@@ -186,14 +185,14 @@ narrowed_back t u s b e m =
 
 -- ---- refusals
 
-unlike : (a : Resized) (r : Reason) → a ≡ Done → a ≡ Refused r → ⊥
+unlike : (a : Result ⊤ Reason) (r : Reason) → a ≡ Ok tt → a ≡ Err r → ⊥
 unlike a r p q = let z : ◌≡◌ {A = ℕ} 0 1 = cc in omega arith
 
 module _ (t u : List ℕ) where
   abbrev same : Bool
   same = eqb (entries_in recorded_width t) (entries_in host_width u)
 
-  wide_only : narrow_of u t ≡ Refused Reasons.Wide → AsMany t u × Above u 0 (entries_in host_width u)
+  wide_only : narrow_of u t ≡ Err Reasons.Wide → AsMany t u × Above u 0 (entries_in host_width u)
   wide_only e = go same (some_wide u 0 (entries_in host_width u)) refl refl
     where
       go : (a c : Bool) → same ≡ a → some_wide u 0 (entries_in host_width u) ≡ c → AsMany t u × Above u 0 (entries_in host_width u)
@@ -201,7 +200,7 @@ module _ (t u : List ℕ) where
       go true true p q = (eqb-true _ _ p, some_at _ u 0 q)
       go true false p q = absurd (unlike _ _ (sym (narrow_done t u p (sym q) _ refl).0) e)
 
-  some-room : AsMany t u → narrow_of u t ≡ Refused Reasons.NoRoom → ⊥
+  some-room : AsMany t u → narrow_of u t ≡ Err Reasons.NoRoom → ⊥
   some-room m e = go (some_wide u 0 (entries_in host_width u)) refl
     where
       go : (c : Bool) → some_wide u 0 (entries_in host_width u) ≡ c → ⊥

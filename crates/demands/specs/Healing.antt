@@ -1,11 +1,10 @@
 -- Demand 3, in the user's words: damage heals at the next heading.
 -- Assumes nothing.
-use Rattle.std.specs.Prelude.{ℕ, ◌+◌, ◌*◌, ◌≤◌, ◌≡◌, List, map, ◌++◌, length, drop}
+use Rattle.std.specs.Prelude.{ℕ, ◌+◌, ◌*◌, ◌≤◌, ◌≡◌, List, map, ◌++◌, length, drop, Ok}
 use Rattle.lines.specs.Feed.{lines, lines_before, Starts}
-use Rattle.judge.specs.Message.{headings, feed_limit, judge_of, rows_of}
+use Rattle.judge.specs.Message.{headings, feed_limit, judge_of, rows_of, refused}
 use Rattle.words.specs.Words.{bytes}
 use Rattle.reasons.specs.declared.Reason.TheVariants as Reasons
-use Rattle.judge.specs.declared.Judged.TheVariants.{Accepted, Refused}
 use Rattle.judge.specs.declared.Row.{Row}
 use Rattle.tables.specs.Table.{host_row, table_bytes}
 use Rattle.desk.specs.Placing.{top_load, place_of, place_table}
@@ -45,9 +44,9 @@ pub record Alike (f₁ f₂ : List ℕ) (q₁ q₂ : ℕ) : Type 0 where
   pub base : ℕ → List Row
   pub rows₁ : (j : ℕ) → 1 ≤ j → rows_of f₁ (from_there f₁ q₁ j) ≡ map (moved_row q₁) (base j)
   pub rows₂ : (j : ℕ) → 1 ≤ j → rows_of f₂ (from_there f₂ q₂ j) ≡ map (moved_row q₂) (base j)
-  pub tables₁ : (j n : ℕ) → 1 ≤ j → (d : Desk) (t : List ℕ) → (d.load.0 ≡ top_load → ⊥) → (place_of d f₁ (from_there f₁ q₁ j) (length t)).answer ≡ Accepted n
+  pub tables₁ : (j n : ℕ) → 1 ≤ j → (d : Desk) (t : List ℕ) → (d.load.0 ≡ top_load → ⊥) → (place_of d f₁ (from_there f₁ q₁ j) (length t)).answer ≡ Ok n
       → place_table d f₁ (from_there f₁ q₁ j) t ≡ table_bytes (map (moved_row q₁) (base j)) ++ drop (host_row * n) t
-  pub tables₂ : (j n : ℕ) → 1 ≤ j → (d : Desk) (t : List ℕ) → (d.load.0 ≡ top_load → ⊥) → (place_of d f₂ (from_there f₂ q₂ j) (length t)).answer ≡ Accepted n
+  pub tables₂ : (j n : ℕ) → 1 ≤ j → (d : Desk) (t : List ℕ) → (d.load.0 ≡ top_load → ⊥) → (place_of d f₂ (from_there f₂ q₂ j) (length t)).answer ≡ Ok n
       → place_table d f₂ (from_there f₂ q₂ j) t ≡ table_bytes (map (moved_row q₂) (base j)) ++ drop (host_row * n) t
 
 -- "Take two feeds within the size limit, and a place in each that starts a line, from which both run on with the same bytes, beginning with a heading
@@ -71,6 +70,6 @@ Met =
     × (drop 2 damaged_one ≡ drop 22 damaged_two)
     × (from_there damaged_one 2 1 ≡ 1)
     × (from_there damaged_two 22 1 ≡ 2)
-    × (judge_of damaged_one 1 ≡ Accepted 19)
-    × (judge_of damaged_two 1 ≡ Refused Reasons.Value 1)
-    × (judge_of damaged_two 2 ≡ Accepted 19)
+    × (judge_of damaged_one 1 ≡ Ok 19)
+    × (judge_of damaged_two 1 ≡ refused Reasons.Value 1)
+    × (judge_of damaged_two 2 ≡ Ok 19)

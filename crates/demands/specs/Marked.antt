@@ -1,13 +1,12 @@
 -- The cases that document 01 marks, settled on the definitions themselves, as one listed statement; of second 60 and of a missing degree what
 -- document 02, (ii) and (iv), says.
 -- Assumes nothing.
-use Rattle.std.specs.Prelude.{ℕ, ◌≡◌, Bool, true, false, List, [], ◌∷◌, ◌++◌, length, replicate}
+use Rattle.std.specs.Prelude.{ℕ, ◌≡◌, Bool, true, false, List, [], ◌∷◌, ◌++◌, length, replicate, Ok}
 use Prim.Native.String.{String}
 use Rattle.words.specs.Words.{bytes}
 use Rattle.lines.specs.Text.{is_long}
 use Rattle.values.specs.Number.{is_number, is_integer}
-use Rattle.judge.specs.Message.{judge_of, rows_of}
-use Rattle.judge.specs.declared.Judged.TheVariants.{Accepted, Refused}
+use Rattle.judge.specs.Message.{judge_of, rows_of, refused}
 use Rattle.judge.specs.declared.Row.{Row}
 use Rattle.tables.specs.Table.{table_bytes}
 use Rattle.desk.specs.Placing.{place_of}
@@ -88,13 +87,13 @@ Marked =
     × (long_at 254 ≡ false)
     × (long_at 255 ≡ true)
     × (length feed_in_full ≡ 244)
-    × (judge_of feed_in_full 1 ≡ Accepted 19)
+    × (judge_of feed_in_full 1 ≡ Ok 19)
     × (rows_of feed_in_full 1 ≡ nineteen_rows)
-    × (judge_of (bytes twelve_lines) 1 ≡ Refused Reasons.Short 13)
-    × (judge_of (bytes twelve_lines ++ (bytes "META_STOP\n" ++ bytes data_line)) 1 ≡ Refused Reasons.Order 13)
-    × ((place_of fresh_desk feed_in_full 1 376).answer ≡ Refused Reasons.NoRoom 0)
-    × ((place_of fresh_desk feed_in_full 1 377).answer ≡ Refused Reasons.NoRoom 0)
-    × ((place_of fresh_desk feed_in_full 1 378).answer ≡ Refused Reasons.NoRoom 0)
-    × ((place_of fresh_desk feed_in_full 1 379).answer ≡ Refused Reasons.NoRoom 0)
-    × ((place_of fresh_desk feed_in_full 1 380).answer ≡ Accepted 19)
+    × (judge_of (bytes twelve_lines) 1 ≡ refused Reasons.Short 13)
+    × (judge_of (bytes twelve_lines ++ (bytes "META_STOP\n" ++ bytes data_line)) 1 ≡ refused Reasons.Order 13)
+    × ((place_of fresh_desk feed_in_full 1 376).answer ≡ refused Reasons.NoRoom 0)
+    × ((place_of fresh_desk feed_in_full 1 377).answer ≡ refused Reasons.NoRoom 0)
+    × ((place_of fresh_desk feed_in_full 1 378).answer ≡ refused Reasons.NoRoom 0)
+    × ((place_of fresh_desk feed_in_full 1 379).answer ≡ refused Reasons.NoRoom 0)
+    × ((place_of fresh_desk feed_in_full 1 380).answer ≡ Ok 19)
     × (length (table_bytes nineteen_rows) ≡ 380)

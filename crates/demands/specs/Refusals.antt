@@ -1,21 +1,21 @@
 -- A refusal of each reason 3 to 11 explained, by document 02, (vii), settled on the definitions themselves: document 01's feed in full with a line altered, put in
 -- or left out, and a state message behind it.
 -- Assumes nothing.
-use Rattle.std.specs.Prelude.{ℕ, ◌-◌, ◌≡◌, List, [], ◌∷◌, ◌++◌, length, replicate}
+use Rattle.std.specs.Prelude.{ℕ, ◌-◌, ◌≡◌, List, [], ◌∷◌, ◌++◌, length, replicate, Ok}
 use Prim.Native.String.{String}
 use Rattle.words.specs.Words.{bytes}
 use Rattle.reasons.specs.declared.Reason.{Reason}
 use Rattle.reasons.specs.declared.Reason.TheVariants as Reasons
-use Rattle.judge.specs.declared.Judged.TheVariants.{Accepted, Refused}
 use Rattle.explain.specs.Explain.{plainly, explain_of}
 use Rattle.explain.specs.declared.Explained.{Explained}
 use Rattle.demands.specs.Marked.{twelve_lines, data_line, feed_in_full}
+use Rattle.judge.specs.Message.{refused}
 
 -- reason, line, place and length, and the codes
 abbrev pub why : Reason → ℕ → ℕ → ℕ → List ℕ → Explained
 why r line start n codes =
     record {
-      judged = Refused r line;
+      judged = refused r line;
       start = start;
       length = n;
       listed = record { count = length codes; codes = codes ++ replicate (4 - length codes) 0 };
@@ -76,5 +76,5 @@ Refusals =
     OfTheLine
     × OfItsParts
     × WithCodes
-    × (explain_of feed_in_full 1 ≡ plainly (Accepted 19))
-    × (explain_of feed_in_full 2 ≡ plainly (Refused Reasons.NoMessage 0))
+    × (explain_of feed_in_full 1 ≡ plainly (Ok 19))
+    × (explain_of feed_in_full 2 ≡ plainly (refused Reasons.NoMessage 0))

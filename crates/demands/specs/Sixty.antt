@@ -1,35 +1,33 @@
 -- Second 60, by document 02, (ii), settled on the definitions themselves: on epochs, on states, and on messages of both types.
 -- Assumes nothing.
-use Rattle.std.specs.Prelude.{ℕ, ◌≡◌, Bool, true, false, List, ◌++◌, eqb, get_or}
+use Rattle.std.specs.Prelude.{ℕ, ◌≡◌, Bool, true, false, List, ◌++◌, eqb, get_or, Option, Some, None, Ok, Err}
 use Prim.Native.String.{String}
 use Rattle.words.specs.Words.{bytes, is_word}
 use Rattle.lines.specs.Text.{no_span}
 use Rattle.lines.specs.declared.Span.{Span}
 use Rattle.lines.specs.declared.Fields.{Fields}
 use Rattle.epochs.specs.Epoch.{epoch_of, is_before}
-use Rattle.epochs.specs.declared.Epoch.{Epoch}
-use Rattle.epochs.specs.declared.Epoch.TheVariants.{At, Bad}
-use Rattle.step.specs.Step.{wrong, fits_here, part, data_of, past_whole, time_of}
+use Rattle.step.specs.Step.{fits_here, part, data_of, past_whole, time_of}
 use Rattle.step.specs.declared.State.{State}
 use Rattle.reasons.specs.declared.Reason.TheVariants as Reasons
-use Rattle.judge.specs.Message.{judge_of}
-use Rattle.judge.specs.declared.Judged.TheVariants.{Accepted, Refused}
+use Rattle.judge.specs.Message.{judge_of, refused}
+use Rattle.epochs.specs.declared.Instant.{Instant}
 
 -- ---- epochs
 
-abbrev pub stands : Epoch → Bool
-stands (At t) = true
-stands Bad = false
+abbrev pub stands : Option Instant → Bool
+stands (Some t) = true
+stands None = false
 
 -- the text is an epoch for one who says whether second 60 may stand
 abbrev pub epoch_stands : Bool → String → Bool
 epoch_stands sixty s = stands (epoch_of (bytes s) sixty)
 
 -- both are epochs, and the first is before the second
-abbrev pub earlier : Epoch → Epoch → Bool
-earlier (At a) (At b) = is_before a b
-earlier (At a) Bad = false
-earlier Bad y = false
+abbrev pub earlier : Option Instant → Option Instant → Bool
+earlier (Some a) (Some b) = is_before a b
+earlier (Some a) None = false
+earlier None y = false
 
 abbrev pub comes_before : String → String → Bool
 comes_before a b = earlier (epoch_of (bytes a) true) (epoch_of (bytes b) true)
@@ -113,49 +111,49 @@ InOrder =
 abbrev pub InAnyState : Type 0
 InAnyState =
     ((st : State) (v : List ℕ) → (past_whole st 8 v).utc ≡ is_word (bytes "UTC") v)
-    × ((st : State) (c : ℕ) (p : Span) (s : List ℕ) → eqb c 2 ≡ false → st.utc ≡ false → part p s ≡ bytes sixty → time_of st c p s ≡ wrong st Reasons.Value)
+    × ((st : State) (c : ℕ) (p : Span) (s : List ℕ) → eqb c 2 ≡ false → st.utc ≡ false → part p s ≡ bytes sixty → time_of st c p s ≡ Err Reasons.Value)
     × ((st : State) (f : Fields) (s : List ℕ) → fits_here st 9 ≡ true → st.utc ≡ false → part (get_or f.spans 0 no_span) s ≡ bytes sixty
-    → data_of st f s ≡ wrong st Reasons.Value)
+    → data_of st f s ≡ Err Reasons.Value)
 
 -- "for CREATION_DATE always and for the other epochs where the message or segment has TIME_SYSTEM exactly `UTC`"
 abbrev pub Standing : Type 0
 Standing =
-    (judge_of (opm_of sixty "TAI" plain plain) 1 ≡ Accepted 27)
-    × (judge_of (oem_of sixty "TAI" plain) 1 ≡ Accepted 21)
-    × (judge_of (opm_of plain "UTC" sixty sixty) 1 ≡ Accepted 27)
-    × (judge_of (oem_of plain "UTC" sixty) 1 ≡ Accepted 21)
+    (judge_of (opm_of sixty "TAI" plain plain) 1 ≡ Ok 27)
+    × (judge_of (oem_of sixty "TAI" plain) 1 ≡ Ok 21)
+    × (judge_of (opm_of plain "UTC" sixty sixty) 1 ≡ Ok 27)
+    × (judge_of (oem_of plain "UTC" sixty) 1 ≡ Ok 21)
 
 -- VALUE under any other time system, at each epoch's line; `utc` and `UTC1` are others
 abbrev pub Elsewhere : Type 0
 Elsewhere =
-    (judge_of (opm_of plain "TAI" sixty sixty) 1 ≡ Refused Reasons.Value 9)
-    × (judge_of (opm_of plain "TAI" plain sixty) 1 ≡ Refused Reasons.Value 21)
-    × (judge_of (head_of plain ++ segment_of "TAI" sixty sixty sixty sixty sixty) 1 ≡ Refused Reasons.Value 10)
-    × (judge_of (head_of plain ++ segment_of "TAI" plain sixty sixty sixty sixty) 1 ≡ Refused Reasons.Value 11)
-    × (judge_of (head_of plain ++ segment_of "TAI" plain plain sixty sixty sixty) 1 ≡ Refused Reasons.Value 12)
-    × (judge_of (head_of plain ++ segment_of "TAI" plain plain plain sixty sixty) 1 ≡ Refused Reasons.Value 13)
-    × (judge_of (head_of plain ++ segment_of "TAI" plain plain plain plain sixty) 1 ≡ Refused Reasons.Value 15)
-    × (judge_of (opm_of plain "utc" sixty sixty) 1 ≡ Refused Reasons.Value 9)
-    × (judge_of (oem_of plain "utc" sixty) 1 ≡ Refused Reasons.Value 10)
-    × (judge_of (opm_of plain "UTC1" sixty sixty) 1 ≡ Refused Reasons.Value 9)
-    × (judge_of (oem_of plain "UTC1" sixty) 1 ≡ Refused Reasons.Value 10)
+    (judge_of (opm_of plain "TAI" sixty sixty) 1 ≡ refused Reasons.Value 9)
+    × (judge_of (opm_of plain "TAI" plain sixty) 1 ≡ refused Reasons.Value 21)
+    × (judge_of (head_of plain ++ segment_of "TAI" sixty sixty sixty sixty sixty) 1 ≡ refused Reasons.Value 10)
+    × (judge_of (head_of plain ++ segment_of "TAI" plain sixty sixty sixty sixty) 1 ≡ refused Reasons.Value 11)
+    × (judge_of (head_of plain ++ segment_of "TAI" plain plain sixty sixty sixty) 1 ≡ refused Reasons.Value 12)
+    × (judge_of (head_of plain ++ segment_of "TAI" plain plain plain sixty sixty) 1 ≡ refused Reasons.Value 13)
+    × (judge_of (head_of plain ++ segment_of "TAI" plain plain plain plain sixty) 1 ≡ refused Reasons.Value 15)
+    × (judge_of (opm_of plain "utc" sixty sixty) 1 ≡ refused Reasons.Value 9)
+    × (judge_of (oem_of plain "utc" sixty) 1 ≡ refused Reasons.Value 10)
+    × (judge_of (opm_of plain "UTC1" sixty sixty) 1 ≡ refused Reasons.Value 9)
+    × (judge_of (oem_of plain "UTC1" sixty) 1 ≡ refused Reasons.Value 10)
 
 -- VALUE at another hour or minute, and any later second, for a creation date and under UTC
 abbrev pub OffTheClock : Type 0
 OffTheClock =
-    (judge_of (opm_of "2016-12-31T22:59:60" "UTC" plain plain) 1 ≡ Refused Reasons.Value 2)
-    × (judge_of (opm_of plain "UTC" "2016-12-31T23:58:60" plain) 1 ≡ Refused Reasons.Value 9)
-    × (judge_of (opm_of plain "UTC" plain "2016-12-31T23:59:61") 1 ≡ Refused Reasons.Value 21)
-    × (judge_of (oem_of "2016-12-31T23:58:60" "UTC" plain) 1 ≡ Refused Reasons.Value 2)
-    × (judge_of (oem_of plain "UTC" "2016-12-31T22:59:60") 1 ≡ Refused Reasons.Value 10)
-    × (judge_of (oem_of "2016-12-31T23:59:61" "UTC" plain) 1 ≡ Refused Reasons.Value 2)
+    (judge_of (opm_of "2016-12-31T22:59:60" "UTC" plain plain) 1 ≡ refused Reasons.Value 2)
+    × (judge_of (opm_of plain "UTC" "2016-12-31T23:58:60" plain) 1 ≡ refused Reasons.Value 9)
+    × (judge_of (opm_of plain "UTC" plain "2016-12-31T23:59:61") 1 ≡ refused Reasons.Value 21)
+    × (judge_of (oem_of "2016-12-31T23:58:60" "UTC" plain) 1 ≡ refused Reasons.Value 2)
+    × (judge_of (oem_of plain "UTC" "2016-12-31T22:59:60") 1 ≡ refused Reasons.Value 10)
+    × (judge_of (oem_of "2016-12-31T23:59:61" "UTC" plain) 1 ≡ refused Reasons.Value 2)
 
 -- a segment goes by its own time system
 abbrev pub BySegment : Type 0
 BySegment =
-    (judge_of (head_of plain ++ segment_at "UTC" sixty ++ segment_at "TAI" plain) 1 ≡ Accepted 39)
-    × (judge_of (head_of plain ++ segment_at "UTC" sixty ++ segment_at "TAI" sixty) 1 ≡ Refused Reasons.Value 22)
-    × (judge_of (head_of plain ++ segment_at "TAI" plain ++ segment_at "UTC" sixty) 1 ≡ Accepted 39)
+    (judge_of (head_of plain ++ segment_at "UTC" sixty ++ segment_at "TAI" plain) 1 ≡ Ok 39)
+    × (judge_of (head_of plain ++ segment_at "UTC" sixty ++ segment_at "TAI" sixty) 1 ≡ refused Reasons.Value 22)
+    × (judge_of (head_of plain ++ segment_at "TAI" plain ++ segment_at "UTC" sixty) 1 ≡ Ok 39)
 
 abbrev pub Sixty : Type 0
 Sixty = AsEpoch × InOrder × InAnyState × Standing × Elsewhere × OffTheClock × BySegment

@@ -4,36 +4,35 @@
 ghost use Rattle.std.specs.Prelude.{◌≡◌, ◌<◌, length};
 ghost use Rattle.desk.specs.Placing.{next_desk, desk_after, place_of, place_table, read_of, part_heard};
 
-use judge::Judged;
+use judge::{Refusal, Row};
 use reasons::Reason;
-use tables::Heard;
 
 // A load number and a row number are never taken for each other.
-#[derive(Clone, Copy)]
+#[derive(Clone, Copy, Debug, PartialEq, Eq)]
 pub struct LoadNumber(pub u32);
 
-#[derive(Clone, Copy)]
+#[derive(Clone, Copy, Debug, PartialEq, Eq)]
 pub struct RowNumber(pub u32);
 
 // A ticket: the load number at issue and the row number, from 0.
-#[derive(Clone, Copy)]
+#[derive(Clone, Copy, Debug, PartialEq, Eq)]
 pub struct Ticket {
     pub load: LoadNumber,
     pub row: RowNumber,
 }
 
 // A desk goes in by value and comes back.
-#[derive(Clone, Copy)]
+#[derive(Clone, Copy, Debug, PartialEq, Eq)]
 pub struct Desk {
     pub load: LoadNumber,
     pub count: u32,
 }
 
 // The next desk, on acceptance and refusal alike, with the answer.
-#[derive(Clone, Copy)]
+#[derive(Clone, Copy, Debug, PartialEq, Eq)]
 pub struct Placed {
     pub desk: Desk,
-    pub answer: Judged,
+    pub answer: Result<u32, Refusal>,
 }
 
 impl Desk {
@@ -64,14 +63,12 @@ impl Desk {
     }
 
     // The desk after placing with this answer.
-    fn after(self, answer: Judged) -> Desk
+    #[tactic(auto, unfolding(crate::specs::Placing::desk_after))]
+    fn after(self, answer: Result<u32, Refusal>) -> Desk
         requires { self.load.0 < 4294967295 }
         ensures { result ≡ desk_after self answer }
     {
-        match answer {
-            Judged::Refused(_, _) => self.next(0),
-            Judged::Accepted(rows) => self.next(rows),
-        }
+        self.next(answer.unwrap_or(0))
     }
 
     // Judges a message and, where it is right and the table has room, fills the table; the next desk comes back.
@@ -82,7 +79,7 @@ impl Desk {
         if self.load.0 == Desk::TOP_LOAD {
             return Placed {
                 desk: self,
-                answer: Judged::Refused(Reason::Spent, 0),
+                answer: Err(Reason::Spent.into()),
             };
         }
         let answer = rows::put_message(feed, message, table);
@@ -94,15 +91,15 @@ impl Desk {
 
     // What a ticket hears.
     #[tactic(auto, unfolding(crate::specs::Placing::read_of))]
-    pub fn read(self, ticket: Ticket, feed: &[u8], table: &[u8]) -> Heard
+    pub fn read(self, ticket: Ticket, feed: &[u8], table: &[u8]) -> Result<Row, Reason>
         ensures { result ≡ read_of self ticket feed.now table.now }
     {
-        if ticket.load.0 != self.load.0 {
-            return Heard::Silent(Reason::Gone);
+        if ticket.load != self.load {
+            return Err(Reason::Gone);
         }
         let n = ticket.row.0;
         if self.count <= n {
-            return Heard::Silent(Reason::NoRow);
+            return Err(Reason::NoRow);
         }
         tables::row_heard(n, feed, table)
     }
@@ -112,8 +109,8 @@ impl Desk {
         ensures { result.now ≡ part_heard (read_of self ticket feed.now table.now) feed.now }
     {
         match self.read(ticket, feed, table) {
-            Heard::Silent(_) => &feed[..0],
-            Heard::Spoken(row) => {
+            Err(_) => &feed[..0],
+            Ok(row) => {
                 let start = row.start as usize;
                 let end = start + row.length as usize;
                 &feed[start..end]

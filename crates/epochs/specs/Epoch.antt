@@ -1,11 +1,9 @@
 -- Epochs and their instants, by document 01, "Values", and document 02, (ii). A value is the list of its bytes; sixty says whether second 60 may stand.
 -- Assumes nothing.
-use Rattle.std.specs.Prelude.{ℕ, zero, suc, ◌+◌, ◌-◌, ◌*◌, ◌%◌, List, [], ◌∷◌, Bool, true, false, not, ◌&&◌, ◌||◌, eqb, leb, ltb, get_or, drop}
+use Rattle.std.specs.Prelude.{ℕ, zero, suc, ◌+◌, ◌-◌, ◌*◌, ◌%◌, List, [], ◌∷◌, Bool, true, false, not, ◌&&◌, ◌||◌, eqb, leb, ltb, get_or, drop, Option, Some, None}
 use Rattle.words.specs.Words.{bytes, agrees, is_digit}
 use Rattle.values.specs.Number.{is_digits}
 use Rattle.epochs.specs.declared.Instant.{Instant}
-use Rattle.epochs.specs.declared.Epoch.{Epoch}
-use Rattle.epochs.specs.declared.Epoch.TheVariants.{At, Bad}
 
 -- a shape's `0` is any digit, and every other byte is itself
 abbrev pub fits : ℕ → ℕ → Bool
@@ -36,13 +34,13 @@ unfoldable pub days_before : Bool → ℕ → ℕ
 days_before leap zero = 0
 days_before leap (suc m) = days_before leap m + month_days leap m
 
--- the day of the year that is day d of month m; 0 where there is no such day
-unfoldable pub month_day : Bool → ℕ → ℕ → ℕ
-month_day leap m d = elim (leb 1 d && leb d (month_days leap m)) [ true ↦ days_before leap m + d | false ↦ 0 ]
+-- the day of the year that is day d of month m, where there is such a day
+unfoldable pub month_day : Bool → ℕ → ℕ → Option ℕ
+month_day leap m d = elim (leb 1 d && leb d (month_days leap m)) [ true ↦ Some (days_before leap m + d) | false ↦ None ]
 
--- day d of the year; 0 where there is no such day
-unfoldable pub year_day : Bool → ℕ → ℕ
-year_day leap d = elim (leb d (elim leap [ true ↦ 366 | false ↦ 365 ])) [ true ↦ d | false ↦ 0 ]
+-- day d of the year, where there is such a day
+unfoldable pub year_day : Bool → ℕ → Option ℕ
+year_day leap d = elim (leb 1 d && leb d (elim leap [ true ↦ 366 | false ↦ 365 ])) [ true ↦ Some d | false ↦ None ]
 
 -- "YYYY"
 abbrev pub year_at : List ℕ → ℕ
@@ -73,22 +71,23 @@ nano_at s at =
     two_at s at * 10000000 + two_at s (at + 2) * 100000 + two_at s (at + 4) * 1000 + two_at s (at + 6) * 10 + digit_at s (at + 8)
 
 -- the instant of a day of the year, with the clock from a place on: "Years 0001 to 9999"
-unfoldable pub timed_of : List ℕ → ℕ → ℕ → Bool → Epoch
-timed_of s day at sixty =
-    elim (leb 1 (year_at s) && (leb 1 day && (is_clock s at sixty && is_fraction (drop (at + 8) s)))) [
-      | true ↦ At (record { day = year_at s * 1000 + day; second = second_at s at; nano = nano_at s (at + 9) })
-      | false ↦ Bad
+unfoldable pub timed_of : List ℕ → Option ℕ → ℕ → Bool → Option Instant
+timed_of s None at sixty = None
+timed_of s (Some day) at sixty =
+    elim (leb 1 (year_at s) && (is_clock s at sixty && is_fraction (drop (at + 8) s))) [
+      | true ↦ Some (record { day = year_at s * 1000 + day; second = second_at s at; nano = nano_at s (at + 9) })
+      | false ↦ None
     ]
 
 -- "Epoch (2, 9, 29, 38-41): `YYYY-MM-DDThh:mm:ss` or `YYYY-DDDThh:mm:ss`, then nothing or a period and 1 to 9 digits"
-unfoldable pub epoch_of : List ℕ → Bool → Epoch
+unfoldable pub epoch_of : List ℕ → Bool → Option Instant
 epoch_of s sixty =
     elim (shaped (bytes "0000-00-00T00:00:00") s) [
       | true ↦ timed_of s (month_day (is_leap (year_at s)) (two_at s 5) (two_at s 8)) 11 sixty
       | false ↦
           elim (shaped (bytes "0000-000T00:00:00") s) [
             | true ↦ timed_of s (year_day (is_leap (year_at s)) (two_at s 5 * 10 + digit_at s 7)) 9 sixty
-            | false ↦ Bad
+            | false ↦ None
           ]
     ]
 

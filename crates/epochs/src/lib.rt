@@ -1,40 +1,32 @@
 // What an epoch's bytes say, in both forms, and which instant comes first. Every public function answers for any bytes.
 #![tactic(auto)]
 
-ghost use Rattle.std.specs.Prelude.{◌≡◌, ◌+◌, ◌<◌, ◌≤◌, drop};
+ghost use Rattle.std.specs.Prelude.{IfSome, ◌≡◌, ◌+◌, ◌<◌, ◌≤◌, drop};
 ghost use Rattle.epochs.specs.Epoch.{shaped, fits, digit_at, two_at, year_at, is_leap, month_days, days_before, month_day, year_day, last_second, is_clock, second_at, is_fraction, nano_at, timed_of, epoch_of, is_before};
 
 use values::{digit, only_digits};
 
 // A moment: the year times a thousand and the day of the year, the second of the day (86,400 is 23:59:60), the nanosecond of the second.
-#[derive(Clone, Copy)]
+#[derive(Clone, Copy, Debug, PartialEq, Eq, PartialOrd, Ord)]
 pub struct Instant {
     pub day: u64,
     pub second: u64,
     pub nano: u64,
 }
 
-// The instant that an epoch names, or no epoch.
-#[derive(Clone, Copy)]
-pub enum Epoch {
-    At(Instant),
-    Bad,
-}
-
 // A shape's `0` stands for any digit.
 fn fits_shape(p: u8, b: u8) -> bool
     ensures { result ≡ fits p b }
 {
-    if p != 48 {
-        return p == b;
+    if p == b'0' {
+        b.is_ascii_digit()
+    } else {
+        p == b
     }
-    if b < 48 {
-        return false;
-    }
-    b <= 57
 }
 
-// The text begins with the shape.
+// The text begins with the shape. A fold over the two in a `zip`, and `&=`, took a twentieth more instructions of `epoch_of`.
+#[tactic(auto, using(crate::proofs::Laws::shorter, crate::proofs::Laws::shape_more, crate::proofs::Laws::shape_stop, crate::proofs::Laws::shape_end))]
 pub fn has_shape(text: &[u8], shape: &[u8]) -> bool
     ensures { result ≡ shaped shape.now text.now }
 {
@@ -42,12 +34,10 @@ pub fn has_shape(text: &[u8], shape: &[u8]) -> bool
         return false;
     }
     let mut fits = true;
-    let mut i = 0;
-    while i < shape.len() {
-        if !fits_shape(shape[i], text[i]) {
+    for (i, p) in shape.iter().enumerate() {
+        if !fits_shape(*p, text[i]) {
             fits = false; // and on to the end, so that no byte waits for the one before it
         }
-        i += 1;
     }
     fits
 }
@@ -57,10 +47,10 @@ fn digit_at(text: &[u8], at: usize) -> u64
     ensures value { result ≡ digit_at text.now at }
     ensures small { result ≤ 207 }
 {
-    if text.len() <= at {
-        return 0;
+    match text.get(at) {
+        Some(b) => digit(*b),
+        None => 0,
     }
-    digit(text[at])
 }
 
 // Two digits from a place on.
@@ -72,77 +62,62 @@ fn two_at(text: &[u8], at: usize) -> u64
     digit_at(text, at) * 10 + digit_at(text, at + 1)
 }
 
+#[tactic(auto, unfolding(crate::specs::Epoch::is_leap))]
 fn is_leap(year: u64) -> bool
     ensures { result ≡ is_leap year }
 {
-    if year % 400 == 0 {
-        return true;
-    }
-    if year % 100 == 0 {
-        return false;
-    }
-    year % 4 == 0
+    year % 400 == 0 || year % 100 != 0 && year % 4 == 0
 }
 
 const MONTH_DAYS: [u64; 13] = [0, 31, 28, 31, 30, 31, 30, 31, 31, 30, 31, 30, 31];
 
-const LEAP_MONTH_DAYS: [u64; 13] = [0, 31, 29, 31, 30, 31, 30, 31, 31, 30, 31, 30, 31];
-
 const DAYS_BEFORE: [u64; 13] = [0, 0, 31, 59, 90, 120, 151, 181, 212, 243, 273, 304, 334];
 
-const LEAP_DAYS_BEFORE: [u64; 13] = [0, 0, 31, 60, 91, 121, 152, 182, 213, 244, 274, 305, 335];
-
 // How many days a month from 1 to 12 has.
+#[tactic(auto, using(crate::proofs::Laws::days_right))]
 fn month_days(leap: bool, month: usize) -> u64
     requires { month < 13 }
     ensures { result ≡ month_days leap month }
 {
-    if leap {
-        return LEAP_MONTH_DAYS[month];
-    }
-    MONTH_DAYS[month]
+    MONTH_DAYS[month] + u64::from(leap && month == 2)
 }
 
 // How many days of the year stand before a month from 1 to 12.
+#[tactic(auto, using(crate::proofs::Laws::before_right, crate::proofs::Laws::before_small))]
 fn days_before(leap: bool, month: usize) -> u64
     requires { month < 13 }
     ensures value { result ≡ days_before leap month }
     ensures small { result + month_days leap month ≤ 366 }
 {
-    if leap {
-        return LEAP_DAYS_BEFORE[month];
-    }
-    DAYS_BEFORE[month]
+    DAYS_BEFORE[month] + u64::from(leap && 2 < month)
 }
 
-// The day of the year that is a day of a month; 0 where there is no such day.
-fn month_day(leap: bool, month: u64, day: u64) -> u64
+// The day of the year that is a day of a month, where there is such a day.
+#[tactic(auto, unfolding(crate::specs::Epoch::month_day), using(crate::proofs::Laws::no_days))]
+fn month_day(leap: bool, month: u64, day: u64) -> Option<u64>
     ensures value { result ≡ month_day leap month day }
-    ensures small { result ≤ 366 }
+    ensures small { IfSome result (λ day. day ≤ 366) }
 {
-    if day < 1 {
-        return 0;
+    if day < 1 || 12 < month {
+        return None;
     }
-    if 12 < month {
-        return 0;
-    }
-    let m = month as usize;
+    let m = month as usize; // a u64 has no usize::from
     if month_days(leap, m) < day {
-        return 0;
+        return None;
     }
-    days_before(leap, m) + day
+    Some(days_before(leap, m) + day)
 }
 
-// A day of the year; 0 where there is no such day.
-fn year_day(leap: bool, day: u64) -> u64
+// A day of the year, where there is such a day.
+#[tactic(auto, unfolding(crate::specs::Epoch::year_day))]
+fn year_day(leap: bool, day: u64) -> Option<u64>
     ensures value { result ≡ year_day leap day }
-    ensures small { result ≤ 366 }
+    ensures small { IfSome result (λ day. day ≤ 366) }
 {
-    let last = if leap { 366 } else { 365 };
-    if last < day {
-        return 0;
+    if day < 1 || 365 + u64::from(leap) < day {
+        return None;
     }
-    day
+    Some(day)
 }
 
 // The last second of a minute: 60 at 23:59, where it may stand.
@@ -150,16 +125,11 @@ fn year_day(leap: bool, day: u64) -> u64
 fn last_second(hour: u64, minute: u64, sixty: bool) -> u64
     ensures { result ≡ last_second hour minute sixty }
 {
-    if hour != 23 {
-        return 59;
+    if hour == 23 && minute == 59 && sixty {
+        60
+    } else {
+        59
     }
-    if minute != 59 {
-        return 59;
-    }
-    if sixty {
-        return 60;
-    }
-    59
 }
 
 // Hours, minutes and seconds from a place on are those of a day.
@@ -169,14 +139,8 @@ fn is_clock(text: &[u8], at: usize, sixty: bool) -> bool
     ensures { result ≡ is_clock text.now at sixty }
 {
     let hour = two_at(text, at);
-    if 23 < hour {
-        return false;
-    }
     let minute = two_at(text, at + 3);
-    if 59 < minute {
-        return false;
-    }
-    two_at(text, at + 6) <= last_second(hour, minute, sixty)
+    hour <= 23 && minute <= 59 && two_at(text, at + 6) <= last_second(hour, minute, sixty)
 }
 
 fn second_at(text: &[u8], at: usize) -> u64
@@ -186,16 +150,15 @@ fn second_at(text: &[u8], at: usize) -> u64
     (two_at(text, at) * 60 + two_at(text, at + 3)) * 60 + two_at(text, at + 6)
 }
 
+#[tactic(auto, unfolding(crate::specs::Epoch::is_fraction))]
 fn is_fraction(text: &[u8], at: usize) -> bool
     ensures { result ≡ is_fraction (drop at text.now) }
 {
-    if text.len() <= at {
-        return true;
+    match text.get(at) {
+        Some(b'.') => only_digits(&text[at + 1..], 1, 9),
+        Some(_) => false,
+        None => true,
     }
-    if text[at] != 46 {
-        return false;
-    }
-    only_digits(&text[at + 1..], 1, 9)
 }
 
 // Nine digits of a fraction from a place on, those past the end 0.
@@ -218,35 +181,35 @@ fn year_at(text: &[u8]) -> u64
 }
 
 // The instant of a day of the year, with the clock from a place on.
-fn timed(text: &[u8], day: u64, at: usize, sixty: bool) -> Epoch
-    requires { (day ≤ 366) × (at < 40) }
+#[tactic(auto, unfolding(crate::specs::Epoch::timed_of))]
+fn timed(text: &[u8], day: Option<u64>, at: usize, sixty: bool) -> Option<Instant>
+    requires { IfSome day (λ day. day ≤ 366) × (at < 40) }
     ensures { result ≡ timed_of text.now day at sixty }
 {
+    let day = day?;
     let year = year_at(text);
     if year < 1 {
-        return Epoch::Bad;
-    }
-    if day < 1 {
-        return Epoch::Bad;
+        return None;
     }
     if !is_clock(text, at, sixty) {
-        return Epoch::Bad;
+        return None;
     }
     if !is_fraction(text, at + 8) {
-        return Epoch::Bad;
+        return None;
     }
     let date = year * 1000 + day;
     let second = second_at(text, at);
     let nano = nano_at(text, at + 9);
-    Epoch::At(Instant {
+    Some(Instant {
         day: date,
         second,
         nano,
     })
 }
 
-// Whoever has an epoch read says whether second 60 may stand.
-pub fn epoch_of(text: &[u8], sixty: bool) -> Epoch
+// The instant that an epoch names; whoever has one read says whether second 60 may stand.
+#[tactic(auto, unfolding(crate::specs::Epoch::epoch_of, words::specs::Words::bytes))]
+pub fn epoch_of(text: &[u8], sixty: bool) -> Option<Instant>
     ensures { result ≡ epoch_of text.now sixty }
 {
     if has_shape(text, b"0000-00-00T00:00:00") {
@@ -260,18 +223,13 @@ pub fn epoch_of(text: &[u8], sixty: bool) -> Epoch
         );
         return timed(text, day, 9, sixty);
     }
-    Epoch::Bad
+    None
 }
 
 // The first instant is before the second.
+#[tactic(auto, unfolding(crate::specs::Epoch::is_before))]
 pub fn is_before(a: Instant, b: Instant) -> bool
     ensures { result ≡ is_before a b }
 {
-    if a.day != b.day {
-        return a.day < b.day;
-    }
-    if a.second != b.second {
-        return a.second < b.second;
-    }
-    a.nano < b.nano
+    a < b
 }

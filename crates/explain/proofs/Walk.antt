@@ -1,110 +1,102 @@
--- One step of the walk along a message that is explained: the step is the judge's.
+-- What is explained is where the judge's walk along the message came to its end.
 -- Assumes nothing.
-use mathlib.Core.Path.{◌≡◌, refl, sym, ap, ◌∙◌}
-use mathlib.Core.List.{List, []}
+use mathlib.Core.Path.{◌≡◌, refl, ap, ◌∙◌}
+use mathlib.Core.List.{List, [], ◌∷◌}
 use mathlib.Core.Bool.{Bool, true, false, not, ◌&&◌}
-use Prim.Native.Nat.{ℕ, ◌+◌, ◌≤◌, ◌<◌}
+use Prim.Native.Nat.{ℕ, ◌+◌, ◌-◌, ◌≤◌, ◌<◌}
 use native.Mathlib.Omega.{arith}
-use lib.Dec.{ltb}
-use lib.ListN.{length, drop}
-use borrow.Author.Tests.{lt-ltb, le-ltb, ltb-true, ltb-false}
-use Rattle.lines.specs.declared.Ends.{Ends}
-use Rattle.lines.specs.Feed.{lines_at, ends_of}
+use lib.Dec.{eqb, ltb}
+use lib.ListN.{length, take, drop, length-drop}
+use borrow.Author.Tests.{ltb-false}
+use Rattle.lines.specs.Feed.{Line, lines, text_len, line_len}
+use Rattle.lines.proofs.Lists.{line_first, by_lines}
 use Rattle.reasons.specs.declared.Reason.{Reason}
 use Rattle.reasons.specs.declared.Reason.TheVariants as Reasons
-use Rattle.grammar.specs.declared.Form.{Form}
 use Rattle.step.specs.Step.{fresh_state, step_of}
 use Rattle.step.specs.declared.State.{State}
-use Rattle.step.specs.declared.Verdict.{Verdict}
-use Rattle.step.specs.declared.Verdict.TheVariants.{Right, Wrong}
-use Rattle.judge.specs.Message.{is_heading, feed_limit, met_of, moved_of, FoundIs}
-use Rattle.judge.specs.declared.Found.TheVariants.{Place, Missing}
-use Rattle.judge.specs.declared.Judged.TheVariants.{Refused}
-use Rattle.judge.specs.declared.Met.TheVariants.{End, Offence, Within}
-use Rattle.judge.specs.declared.Moved.{Moved}
-use Rattle.judge.proofs.Laws.{left, line_at, none_left, text_left, line_left, line-text, up_stop, up_more, moved_more, walk_on, walk_end, verdict}
-use Rattle.explain.specs.Explain.{plainly, blamed, ended, explain_from, explain_lines, explain_of}
+use Rattle.step.specs.declared.Step.{Step}
+use Rattle.judge.specs.Message.{is_heading, form_of, from_heading, feed_limit, of_feed, refused, stop_of, stop_lines, walk_of}
+use Rattle.judge.specs.declared.Stop.{Stop}
+use Rattle.explain.specs.Explain.{plainly, told, explain_from, explain_lines, explain_of}
 use Rattle.explain.specs.declared.Explained.{Explained}
+use Rattle.std.specs.Prelude.{Result, Ok, Err}
 
-module _ (f : List ℕ) (at : ℕ) (first : Bool) (st : State) (m : Moved) (q : m ≡ moved_of st at (drop at f) (left f at first)) where
-  abbrev ends : Ends
-  ends = ends_of at (drop at f)
+module _ (f : List ℕ) where
+  -- lines that are explained as the walk along them ends, which is in the feed
+  abbrev Told : List Line → Type 0
+  Told ls = (first : Bool) (st : State) (line rows : ℕ) →
+      let x = stop_of (length f) first st line rows ls in (explain_from (length f) first st line rows ls ≡ told f x) × (x.at ≤ length f)
 
-  abbrev text : List ℕ
-  text = (line_at f at ends).text
+  none_told : Told []
+  unfolding explain_from stop_of told
+  none_told first st line rows = (refl, omega arith)
 
-  abbrev stops : Bool
-  stops = not first && is_heading text
-
-  -- at the message's end there is no line, or a heading line that is not the first
-  stops_end : left f at first ≡ [] → at < length f → stops ≡ true
-  stops_end p h = go stops refl
+  more_told : (at : ℕ) (s : List ℕ) (ls : List Line) → s ≡ drop at f → 0 < length s → Told ls → Told (line_first at s ∷ ls)
+  unfolding explain_from stop_of told
+  more_told at s ls e h ih first st line rows = go (not first && is_heading (take (text_len s) s)) refl (step_of st (take (text_len s) s)) refl
     where
-      go : (t : Bool) → stops ≡ t → t ≡ true
-      go true z = refl
-      go false z = cc (p, up_more f at ends h refl first z)
+      here : at ≤ length f
+      here = omega (arith, ap length e, length-drop at f)
 
-  module _ (v : Verdict) (p : m.met ≡ met_of v) where
-    inside : at < length f
-    inside = let w = walk_on f at first st m q v p in omega (arith, w.on, w.next)
+      go : (t : Bool) → not first && is_heading (take (text_len s) s) ≡ t → (y : Result Step Reason) → step_of st (take (text_len s) s) ≡ y
+          → let x = stop_of (length f) first st line rows (line_first at s ∷ ls) in
+          (explain_from (length f) first st line rows (line_first at s ∷ ls) ≡ told f x) × (x.at ≤ length f)
+      go true z y k = rw (z, explain_from, stop_of) (refl, here)
+      go false z (Err r) k = rw (z, explain_from, stop_of) (rw (k, explain_from, stop_of) (rw (← e), here))
+      go false z (Ok x) k = rw (z, explain_from, stop_of) (rw (k, explain_from, stop_of) (ih false x.state (line + 1) (rows + x.count)))
 
-    goes : stops ≡ false
-    goes = go stops refl
+  -- and so are those from any heading line on
+  abbrev All : ℕ → List Line → Type 0
+  All at ls = Told ls × ((k : ℕ) → Told (from_heading k ls))
+
+  all_more : (at : ℕ) (s : List ℕ) (ls : List Line) → s ≡ drop at f → 0 < length s → All (at + line_len s) ls → All at (line_first at s ∷ ls)
+  unfolding from_heading
+  all_more at s ls e h ih = (here, λ k. go k (is_heading (take (text_len s) s)) (eqb k 1))
+    where
+      here : Told (line_first at s ∷ ls)
+      here = more_told at s ls e h ih.0
+
+      go : (k : ℕ) (t u : Bool) → Told (elim t [ true ↦ elim u [ true ↦ line_first at s ∷ ls | false ↦ from_heading (k - 1) ls ] | false ↦ from_heading k ls ])
+      go k true true = here
+      go k true false = ih.1 (k - 1)
+      go k false u = ih.1 k
+
+  all_none : All (length f) []
+  unfolding from_heading
+  all_none = (none_told, λ k. none_told)
+
+  message_told : (k : ℕ) → Told (from_heading k (lines f))
+  message_told k = (by_lines f All all_none all_more).1 k
+
+  module _ (k : ℕ) where
+    -- no message, and a feed that is too long
+    pub explain_unwalked : (r : Reason) → walk_of f k ≡ Err r → explain_of f k ≡ plainly (Err (of_feed r))
+    unfolding walk_of stop_lines explain_of explain_lines
+    explain_unwalked r e = go (ltb feed_limit (length f)) (from_heading k (lines f)) e
       where
-        go : (t : Bool) → stops ≡ t → t ≡ false
-        go true z = cc ((walk_on f at first st m q v p).more, up_stop f at ends inside refl first z)
-        go false z = refl
+        go : (t : Bool) (ls : List Line) → ◌≡◌ {A = Result Stop Reason} (elim t [ true ↦ Err Reasons.FeedLong | false ↦ stop_lines (length f) ls ]) (Err r)
+            → elim t as (λ z. Explained) [ true ↦ plainly (refused Reasons.FeedLong 0) | false ↦ explain_lines (length f) ls ] ≡ plainly (Err (of_feed r))
+        go true ls q = let z : Reasons.FeedLong ≡ r = cc in rw (← z)
+        go false [] q = let z : Reasons.NoMessage ≡ r = cc in rw (← z)
+        go false (l ∷ ls) q = cc
 
-    by : m ≡ record { met = met_of (step_of st text).verdict; step = step_of st text; next = ends.next }
-    by = q ∙ moved_more f at first st ends refl (up_more f at ends inside refl first goes) _ refl _ refl
-
-    judged : (step_of st text).verdict ≡ v
-    judged =
-        let w = walk_on f at first st m q v p in
-        let t : w.text ≡ text = line-text f at first st m w ∙ sym (text_left at (drop at f) ends refl) in
-        rw t at (verdict f at first st m q v p)
-
-  module _ (line rows : ℕ) where
-    abbrev here : Explained
-    here = explain_from (length f) first st line rows (lines_at at (drop at f))
-
-    pub explained_end : at ≤ length f → m.met ≡ End → here ≡ ended st at line rows
-    unfolding explain_from
-    explained_end a p = go (ltb at (length f)) refl
+    -- a message
+    explain_walked : (x : Stop) → walk_of f k ≡ Ok x → (explain_of f k ≡ told f x) × (length f ≤ feed_limit) × (x.at ≤ length f)
+    unfolding walk_of stop_lines explain_of explain_lines
+    explain_walked x e = go (ltb feed_limit (length f)) refl (from_heading k (lines f)) (message_told k) e
       where
-        go : (t : Bool) → ltb at (length f) ≡ t → here ≡ ended st at line rows
-        go true z =
-            let h = ltb-true at (length f) z in
-            rw (line_left f at ends h refl) (rw (stops_end (walk_end f at first st m q p) h, explain_from))
-        go false z =
-            let h = ltb-false at (length f) z in
-            rw (none_left f at h) (ap (λ (n : ℕ). ended st n line rows) (omega arith))
+        go : (t : Bool) → ltb feed_limit (length f) ≡ t → (ls : List Line) → Told ls → ◌≡◌ {A = Result Stop Reason} (elim t [ true ↦ Err Reasons.FeedLong | false ↦ stop_lines (length f) ls ]) (Ok x)
+            → (elim t as (λ z. Explained) [ true ↦ plainly (refused Reasons.FeedLong 0) | false ↦ explain_lines (length f) ls ] ≡ told f x)
+            × (length f ≤ feed_limit) × (x.at ≤ length f)
+        go true z ls w q = cc
+        go false z [] w q = cc
+        go false z (l ∷ ls) w q =
+            let h = w true (fresh_state (form_of l.text)) 1 0 in
+            let s : stop_of (length f) true (fresh_state (form_of l.text)) 1 0 (l ∷ ls) ≡ x = cc in
+            (h.0 ∙ ap (told f) s, ltb-false _ _ z, rw s at h.1)
 
-    pub explained_wrong : (r : Reason) → m.met ≡ Offence r → here ≡ blamed st line (line_at f at ends) r
-    unfolding explain_from
-    explained_wrong r p = rw (line_left f at ends (inside (Wrong r) p) refl) (rw (goes (Wrong r) p, explain_from) (rw (judged (Wrong r) p, explain_from)))
+    pub explain_told : (x : Stop) → walk_of f k ≡ Ok x → explain_of f k ≡ told f x
+    explain_told x e = (explain_walked x e).0
 
-    pub explained_right : m.met ≡ Within
-        → here ≡ explain_from (length f) false m.step.state (line + 1) (rows + m.step.count) (lines_at m.next (drop m.next f))
-    unfolding explain_from
-    explained_right p =
-        rw (line_left f at ends (inside Right p) refl) (rw (goes Right p, explain_from) (rw (judged Right p, explain_from) (rw (by Right p))))
-
--- ---- a message by its number
-
-module _ (f : List ℕ) (k : ℕ) where
-  pub explain_long : feed_limit < length f → explain_of f k ≡ plainly (Refused Reasons.FeedLong 0)
-  unfolding explain_of
-  explain_long h = rw (lt-ltb _ _ h, explain_of)
-
-  module _ (h : length f ≤ feed_limit) where
-    pub explain_missing : FoundIs Missing k f → explain_of f k ≡ plainly (Refused Reasons.NoMessage 0)
-    unfolding explain_of FoundIs explain_lines
-    explain_missing q = rw (le-ltb _ _ h, explain_of) (rw q)
-
-    pub explain_found : (p : ℕ) (form : Form) → FoundIs (Place p form) k f
-        → explain_of f k ≡ explain_from (length f) true (fresh_state form) 1 0 (lines_at p (drop p f))
-    unfolding explain_of FoundIs explain_lines
-    explain_found p form q =
-        let e = ends_of p (drop p f) in
-        rw (le-ltb _ _ h, explain_of) (rw (q.0, line_left f p e q.1 refl) (rw (text_left p (drop p f) e refl, q.2)))
+    pub walk_fits : (x : Stop) → walk_of f k ≡ Ok x → (length f ≤ feed_limit) × (x.at ≤ length f)
+    walk_fits x e = let w = explain_walked x e in (w.1, w.2)

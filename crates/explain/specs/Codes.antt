@@ -5,8 +5,8 @@ use Rattle.reasons.specs.Reasons.{reason_no}
 use Rattle.reasons.specs.declared.Reason.{Reason}
 use Rattle.grammar.specs.Rows.{Row, all, pick}
 use Rattle.grammar.specs.Order.{next_of, allows}
-use Rattle.grammar.specs.declared.Form.{Form}
-use Rattle.grammar.specs.declared.Form.TheVariants.{Opm, Oem}
+use Rattle.lines.specs.declared.Form.{Form}
+use Rattle.lines.specs.declared.Form.TheVariants.{Opm, Oem}
 use Rattle.step.specs.declared.State.{State}
 use Rattle.explain.specs.declared.Codes.{Codes}
 

@@ -1,30 +1,29 @@
 // Why a message is refused: where the offending bytes stand, and what could have stood there.
 #![tactic(auto)]
 
-ghost use Rattle.std.specs.Prelude.{◌≡◌, ◌≤◌, length, drop, true, false, ◌&&◌};
-ghost use Rattle.lines.specs.Feed.{lines_at};
+ghost use Rattle.std.specs.Prelude.{◌≡◌, ◌≤◌, length, true, false, ◌&&◌};
 ghost use Rattle.grammar.specs.Order.{allows};
-ghost use Rattle.step.specs.Step.{fresh_state};
 ghost use Rattle.judge.specs.Message.{feed_limit};
 ghost use Rattle.explain.specs.Codes.{can_begin, code_more, no_codes, codes_of, codes_for};
-ghost use Rattle.explain.specs.Explain.{plainly, blamed, ended, explain_from, explain_of};
+ghost use Rattle.explain.specs.Explain.{plainly, blamed, ended, told, explain_of};
 
-use grammar::{Form, Next};
-use judge::{FEED_LIMIT, Found, Judged, Met, find_message, next_line};
-use reasons::{Reason, reason_number};
+use grammar::Next;
+use judge::{Refusal, Stop};
+use lines::Form;
+use reasons::Reason;
 use step::State;
 
 // At most four codes, in the array's first places; the others are 0.
-#[derive(Clone, Copy)]
+#[derive(Clone, Copy, Debug, PartialEq, Eq)]
 pub struct Codes {
     pub count: u32,
     pub codes: [u32; 4],
 }
 
-// A judgement; the place and length of the offending bytes, and the codes that could have stood there, all 0 where there are none.
-#[derive(Clone, Copy)]
+// A judgement; the place and length of the offending bytes, and the codes that could have stood there, all 0 where there are none, as C has them.
+#[derive(Clone, Copy, Debug, PartialEq, Eq)]
 pub struct Explained {
-    pub judged: Judged,
+    pub judged: Result<u32, Refusal>,
     pub start: u32,
     pub length: u32,
     pub listed: Codes,
@@ -36,14 +35,8 @@ fn can_begin(form: Form, code: u16) -> bool
     ensures { result ≡ can_begin form code }
 {
     match form {
-        Form::Opm => match code {
-            2..=35 => true,
-            _ => false,
-        },
-        Form::Oem => match code {
-            2..=9 | 37..=44 => true,
-            _ => false,
-        },
+        Form::Opm => matches!(code, 2..=35),
+        Form::Oem => matches!(code, 2..=9 | 37..=44),
     }
 }
 
@@ -58,47 +51,33 @@ fn no_codes() -> Codes
 }
 
 // One code more, while there is room.
+#[tactic(auto, unfolding(crate::specs::Codes::code_more))]
 fn code_more(x: Codes, code: u16) -> Codes
     ensures { result ≡ code_more x code }
 {
-    let n = x.count;
     let mut codes = x.codes;
-    if n < 4 {
-        codes[n as usize] = code as u32;
+    if x.count < 4 {
+        codes[x.count as usize] = code as u32;
         return Codes {
-            count: n + 1,
+            count: x.count + 1,
             codes,
         };
     }
     x
 }
 
-// A code more, if a line of it can begin and may stand here.
-fn code_if(x: Codes, form: Form, next: Next, code: u16) -> Codes
-    ensures { result ≡ elim (can_begin form code && allows next code) [ true ↦ code_more x code | false ↦ x ] }
-{
-    if !can_begin(form, code) {
-        return x;
-    }
-    if !grammar::allows_code(next, code) {
-        return x;
-    }
-    code_more(x, code)
-}
-
 // The codes that could stand here, in their order.
 fn codes_of(state: State) -> Codes
     ensures { result ≡ codes_of state }
 {
-    let form = state.form;
-    let next = grammar::next_of(form, state.last);
-    let mut x = no_codes();
-    let mut code: u16 = 1;
-    while code < 46 {
-        x = code_if(x, form, next, code);
-        code += 1;
+    let next = grammar::next_of(state.form, state.last);
+    let mut codes = no_codes();
+    for code in 1..46 {
+        if can_begin(state.form, code) && grammar::allows_code(next, code) {
+            codes = code_more(codes, code);
+        }
     }
-    x
+    codes
 }
 
 // The codes beside a reason of a line: for ORDER alone.
@@ -106,14 +85,14 @@ fn codes_of(state: State) -> Codes
 fn codes_for(state: State, reason: Reason) -> Codes
     ensures { result ≡ codes_for state reason }
 {
-    if reason_number(reason) == 7 {
-        return codes_of(state);
+    match reason {
+        Reason::Order => codes_of(state),
+        _ => no_codes(),
     }
-    no_codes()
 }
 
 // A judgement with nothing to explain.
-fn plain_answer(judged: Judged) -> Explained
+fn plain_answer(judged: Result<u32, Refusal>) -> Explained
     ensures { result ≡ plainly judged }
 {
     Explained {
@@ -124,75 +103,64 @@ fn plain_answer(judged: Judged) -> Explained
     }
 }
 
-// A line that offends; its text starts at a place of the feed.
-fn blame(state: State, at: usize, line: u32, text: &[u8], reason: Reason) -> Explained
-    requires { (at ≤ feed_limit) × (length text.now ≤ feed_limit) }
-    ensures { result ≡ blamed state line (record { start = at; text = text.now }) reason }
+// A line that offends, whose text starts where the walk came to its end.
+fn blame(stop: Stop, text: &[u8], reason: Reason) -> Explained
+    requires { (stop.at ≤ feed_limit) × (length text.now ≤ feed_limit) }
+    ensures { result ≡ blamed stop.state stop.line (record { start = stop.at; text = text.now }) reason }
 {
-    let p = parts::offending_part(state, text, reason);
+    let line = stop.line;
+    let p = parts::offending_part(stop.state, text, reason);
     Explained {
-        judged: Judged::Refused(reason, line),
-        start: (at + p.from) as u32,
+        judged: Err(Refusal { reason, line }),
+        start: (stop.at + p.from) as u32,
         length: (p.to - p.from) as u32,
-        listed: codes_for(state, reason),
+        listed: codes_for(stop.state, reason),
     }
 }
 
 // At the end of a message: the rows, or SHORT with nothing there.
-fn explain_end(state: State, at: usize, line: u32, rows: u32) -> Explained
-    requires { at ≤ feed_limit }
-    ensures { result ≡ ended state at line rows }
+#[tactic(auto, unfolding(crate::specs::Explain::ended))]
+fn explain_end(stop: Stop) -> Explained
+    requires { stop.at ≤ feed_limit }
+    ensures { result ≡ ended stop.state stop.at stop.line stop.rows }
 {
-    let form = state.form;
-    if grammar::next_of(form, state.last).end {
-        return plain_answer(Judged::Accepted(rows));
+    let line = stop.line;
+    if grammar::next_of(stop.state.form, stop.state.last).end {
+        return plain_answer(Ok(stop.rows));
     }
     Explained {
-        judged: Judged::Refused(Reason::Short, line),
-        start: at as u32,
+        judged: Err(Refusal {
+            reason: Reason::Short,
+            line,
+        }),
+        start: stop.at as u32,
         length: 0,
-        listed: codes_of(state),
+        listed: codes_of(stop.state),
     }
 }
 
-// The message that starts at a place, explained: the walk is the judge's.
-fn explain_from(feed: &[u8], from: usize, form: Form) -> Explained
-    requires { (length feed.now ≤ feed_limit) × (from ≤ length feed.now) }
-    ensures { result ≡ explain_from (length feed.now) true (fresh_state form) 1 0 (lines_at from (drop from feed.now)) }
+// Where the walk along a message came to its end, explained.
+#[tactic(auto, unfolding(crate::specs::Explain::told))]
+fn tell(feed: &[u8], stop: Stop) -> Explained
+    requires { (length feed.now ≤ feed_limit) × (stop.at ≤ length feed.now) }
+    ensures { result ≡ told feed.now stop }
 {
-    let mut at = from;
-    let mut line: u32 = 1;
-    let mut rows: u32 = 0;
-    let mut state = State::fresh(form);
-    loop {
-        let moved = next_line(feed, at, line == 1, state, false);
-        let met = moved.met;
-        match met {
-            Met::End => return explain_end(state, at, line, rows),
-            Met::Offence(r) => {
-                let ends = lines::line_at(feed, at);
-                let end = ends.end;
-                return blame(state, at, line, &feed[at..end], r);
-            }
-            Met::Within => {}
+    match stop.offence {
+        None => explain_end(stop),
+        Some(reason) => {
+            let ends = lines::line_at(feed, stop.at);
+            blame(stop, &feed[stop.at..ends.end], reason)
         }
-        let step = moved.step;
-        rows += step.count as u32;
-        line += 1;
-        state = step.state;
-        at = moved.next;
     }
 }
 
-// A message of a feed, judged and, where it is refused, explained.
+// A message of a feed, judged and, where it is refused, explained: the walk is the judge's.
+#[tactic(auto, using(crate::proofs::Walk::explain_unwalked, crate::proofs::Walk::explain_told, crate::proofs::Walk::walk_fits))]
 pub fn explain(feed: &[u8], message: usize) -> Explained
     ensures { result ≡ explain_of feed.now message }
 {
-    if FEED_LIMIT < feed.len() {
-        return plain_answer(Judged::Refused(Reason::FeedLong, 0));
-    }
-    match find_message(feed, message) {
-        Found::Place(at, form) => explain_from(feed, at, form),
-        Found::Missing => plain_answer(Judged::Refused(Reason::NoMessage, 0)),
+    match judge::walk(feed, message) {
+        Err(reason) => plain_answer(Err(reason.into())),
+        Ok(stop) => tell(feed, stop),
     }
 }

@@ -1,21 +1,17 @@
--- Laws of the tables on codes, of the facts that a match leaves on a code, of units, and of what comes next.
+-- Laws of the tables on codes, and of what comes next.
 -- Assumes nothing.
 use mathlib.Core.Path.{◌≡◌, refl, sym, ◌∙◌}
-use mathlib.Core.Logic.{◌⊎◌, inl, inr}
 use mathlib.Core.Bool.{Bool, true, false, not, ◌&&◌, ◌||◌, and-eq-true_iff, false≢true}
 use mathlib.Core.List.{List, [], ◌∷◌}
 use Prim.Native.Nat.{ℕ, zero, suc, zero-le, ◌≤◌, ◌<◌}
 use native.Mathlib.Omega.{arith}
 use lib.Dec.{eqb, leb}
-use lib.ListN.{length}
 use borrow.Author.Tests.{le-leb, lt-leb, leb-true, leb-false, ne_eqb}
-use Rattle.words.specs.Words.{is_word}
 use Rattle.grammar.specs.Rows.{between, Row, pick}
-use Rattle.grammar.specs.Keywords.{unit_of, is_unit}
 use Rattle.grammar.specs.Order.{only, opm_order, oem_order, next_of, allows}
 use Rattle.grammar.specs.declared.Next.{Next}
-use Rattle.grammar.specs.declared.Form.{Form}
-use Rattle.grammar.specs.declared.Form.TheVariants.{Opm, Oem}
+use Rattle.lines.specs.declared.Form.{Form}
+use Rattle.lines.specs.declared.Form.TheVariants.{Opm, Oem}
 
 -- ---- a table's row by its number, from 0: past the last one, no row has the code
 
@@ -41,27 +37,6 @@ unfolding pick
 picks [] d i n s = refl
 picks (r ∷ rs) d zero n s = rw (le-leb _ _ s.0, le-leb _ _ s.1, pick)
 picks (r ∷ rs) d (suc i) n s = rw (not_in r.low r.high n _ _ refl refl s.0, pick) (picks rs d i n s.1)
-
--- ---- what a match leaves on a code
-
--- an arm with two codes was not taken; `omega` reads no sum
-pub neither : {x a b : ℕ} → ((x ≡ a) ⊎ (x ≡ b) → ⊥) → (x ≡ a → ⊥) × (x ≡ b → ⊥)
-neither f = (λ e. f (inl e), λ e. f (inr e))
-
--- an arm with the lowest code was not taken; `omega` gives up where more than six arms were not
-pub past : {l n : ℕ} → l ≤ n → (n ≡ l → ⊥) → suc l ≤ n
-past h e = omega arith
-
--- ---- what stands after a number, where something does
-
-module _ (n : ℕ) (s : List ℕ) (h : length s ≡ 0 → ⊥) where
-  pub unit_is : (w : List ℕ) → w ≡ unit_of n → is_word w s ≡ is_unit n s
-  unfolding is_unit
-  unit_is w e = rw (e, ne_eqb (length s) 0 h, is_unit)
-
-  pub unit_none : [] ≡ unit_of n → false ≡ is_unit n s
-  unfolding is_word
-  unit_none e = rw (← unit_is [] e, ne_eqb (length s) 0 h, is_word)
 
 -- ---- what comes next, at every code
 
@@ -94,8 +69,8 @@ next_all f p e h n = go (leb beyond n) refl
     go true z = rw (next_beyond f n (leb-true beyond n z)) (h n)
     go false z = below_all (λ k. p k (next_of f k)) beyond n e (leb-false beyond n z)
 
-none_allowed : (c : ℕ) (t : Bool) → leb 1 c ≡ t → t && (eqb c 0 || between 0 0 c) ≡ false
-none_allowed c true e = let h = leb-true 1 c e in rw (ne_eqb c 0 (λ z. omega arith), lt-leb c 0 h, le-leb 0 c zero-le)
+none_allowed : (c : ℕ) (t : Bool) → leb 1 c ≡ t → t && between 0 0 c ≡ false
+none_allowed c true e = let h = leb-true 1 c e in rw (lt-leb c 0 h, le-leb 0 c zero-le)
 none_allowed c false e = refl
 
 -- whether a code comes next behind one code alone: computed at every code that a row has

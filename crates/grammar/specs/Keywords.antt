@@ -1,15 +1,13 @@
 -- The keywords that a message type assigns, the kinds of their values and their units, by document 01, "Keyword codes and order" and "Values".
 -- Assumes nothing.
-use Rattle.std.specs.Prelude.{ℕ, List, [], ◌∷◌, Bool, true, false, ◌||◌, eqb, length}
+use Rattle.std.specs.Prelude.{ℕ, List, [], ◌∷◌, Bool, true, false, ◌||◌, eqb, length, Option, Some, None}
 use Rattle.words.specs.Words.{bytes, is_word}
 use Rattle.keywords.specs.Keywords.{keywords, code_in}
 use Rattle.grammar.specs.Rows.{Row, all, one, pick}
-use Rattle.grammar.specs.declared.Form.{Form}
-use Rattle.grammar.specs.declared.Form.TheVariants.{Opm, Oem}
-use Rattle.grammar.specs.declared.Keyword.{Keyword}
-use Rattle.grammar.specs.declared.Keyword.TheVariants.{Code, Unknown}
+use Rattle.lines.specs.declared.Form.{Form}
+use Rattle.lines.specs.declared.Form.TheVariants.{Opm, Oem}
 use Rattle.grammar.specs.declared.Kind.{Kind}
-use Rattle.grammar.specs.declared.Kind.TheVariants.{Version, Text, Integer, Number, Epoch, Nothing}
+use Rattle.grammar.specs.declared.Kind.TheVariants.{Version, Text, Integer, Number, Epoch}
 
 -- the codes that a message type assigns: OPM 1 to 35; OEM 36, 2 to 8 and 38 to 43
 abbrev pub assigned : Form → List (Row Bool)
@@ -20,28 +18,28 @@ abbrev pub assigns : Form → ℕ → Bool
 assigns f n = pick (assigned f) false n
 
 -- "KEYWORD: not an assignment keyword of this message type."
-unfoldable pub keyword_of : Form → List ℕ → Keyword
-keyword_of f s = let n = code_in keywords s in elim (assigns f n) [ true ↦ Code n | false ↦ Unknown ]
+unfoldable pub keyword_of : Form → List ℕ → Option ℕ
+keyword_of f s = elim (code_in keywords s) [ Some n ↦ elim (assigns f n) [ true ↦ Some n | false ↦ None ] | None ↦ None ]
 
 -- "Heading value", "Text (3 to 8, 32, 42)", "Integer (43)", "Epoch (2, 9, 29, 38-41)", "Number (the rest, save epochs)"
-abbrev pub kinds : List (Row Kind)
+abbrev pub kinds : List (Row (Option Kind))
 kinds =
-    one 1 Version
-    ∷ one 36 Version
-    ∷ all 3 8 Text
-    ∷ one 32 Text
-    ∷ one 42 Text
-    ∷ one 43 Integer
-    ∷ one 2 Epoch
-    ∷ one 9 Epoch
-    ∷ one 29 Epoch
-    ∷ all 38 41 Epoch
-    ∷ all 10 35 Number
+    one 1 (Some Version)
+    ∷ one 36 (Some Version)
+    ∷ all 3 8 (Some Text)
+    ∷ one 32 (Some Text)
+    ∷ one 42 (Some Text)
+    ∷ one 43 (Some Integer)
+    ∷ one 2 (Some Epoch)
+    ∷ one 9 (Some Epoch)
+    ∷ one 29 (Some Epoch)
+    ∷ all 38 41 (Some Epoch)
+    ∷ all 10 35 (Some Number)
     ∷ []
 
 -- META lines and comments assign nothing
-abbrev pub kind_of : ℕ → Kind
-kind_of n = pick kinds Nothing n
+abbrev pub kind_of : ℕ → Option Kind
+kind_of n = pick kinds None n
 
 -- the unit in brackets that may follow a number
 abbrev pub units : List (Row (List ℕ))

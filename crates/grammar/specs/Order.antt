@@ -1,18 +1,18 @@
 -- What may follow what, by document 01, "Keyword codes and order". A line goes by its code: a data line by 9.
 -- Assumes nothing.
-use Rattle.std.specs.Prelude.{ℕ, ◌+◌, Bool, true, false, ◌&&◌, ◌||◌, List, [], ◌∷◌, eqb, leb}
+use Rattle.std.specs.Prelude.{ℕ, ◌+◌, Option, Some, None, Bool, true, false, ◌&&◌, ◌||◌, List, [], ◌∷◌, eqb, leb}
 use Rattle.grammar.specs.Rows.{between, Row, each, one, pick}
-use Rattle.grammar.specs.declared.Form.{Form}
-use Rattle.grammar.specs.declared.Form.TheVariants.{Opm, Oem}
+use Rattle.lines.specs.declared.Form.{Form}
+use Rattle.lines.specs.declared.Form.TheVariants.{Opm, Oem}
 use Rattle.grammar.specs.declared.Next.{Next}
 
 -- one code alone
 abbrev pub only : ℕ → Next
-only n = record { low = n; high = n; also = 0; end = false }
+only n = record { low = n; high = n; also = None; end = false }
 
 -- the codes from one to another
 abbrev pub one_of : ℕ → ℕ → Next
-one_of a b = record { low = a; high = b; also = 0; end = false }
+one_of a b = record { low = a; high = b; also = None; end = false }
 
 -- some codes, each followed by the next one alone
 abbrev pub steps : ℕ → ℕ → Row Next
@@ -23,11 +23,11 @@ steps l h = each l h (λ n. only (n + 1))
 -- Before the first line the code is 0. Where nothing else is said, the next code follows.
 abbrev pub opm_order : List (Row Next)
 opm_order =
-    one 15 (record { low = 16; high = 16; also = 24; end = false })
+    one 15 (record { low = 16; high = 16; also = Some 24; end = false })
     ∷ one 20 (one_of 21 22)
     ∷ one 21 (only 23)
-    ∷ one 28 (record { low = 29; high = 29; also = 0; end = true })
-    ∷ one 35 (record { low = 29; high = 29; also = 0; end = true })
+    ∷ one 28 (record { low = 29; high = 29; also = None; end = true })
+    ∷ one 35 (record { low = 29; high = 29; also = None; end = true })
     ∷ steps 0 34
     ∷ []
 
@@ -46,12 +46,12 @@ oem_order =
     ∷ steps 4 7
     ∷ one 8 (only 38)
     ∷ each 38 40 (λ n. one_of (n + 1) 41)
-    ∷ one 41 (record { low = 42; high = 42; also = 44; end = false })
+    ∷ one 41 (record { low = 42; high = 42; also = Some 44; end = false })
     ∷ one 42 (only 43)
     ∷ one 43 (only 44)
     ∷ one 44 (only 9)
-    ∷ one 9 (record { low = 9; high = 9; also = 37; end = true })
-    ∷ one 45 (record { low = 37; high = 37; also = 0; end = true })
+    ∷ one 9 (record { low = 9; high = 9; also = Some 37; end = true })
+    ∷ one 45 (record { low = 37; high = 37; also = None; end = true })
     ∷ []
 
 abbrev pub opm_next : ℕ → Next
@@ -64,6 +64,10 @@ unfoldable pub next_of : Form → ℕ → Next
 next_of Opm n = opm_next n
 next_of Oem n = oem_next n
 
+abbrev pub is_also : Option ℕ → ℕ → Bool
+is_also None n = false
+is_also (Some a) n = eqb n a
+
 -- "ORDER: not allowed next, whether repeated, too early or too late."
 unfoldable pub allows : Next → ℕ → Bool
-allows x n = leb 1 n && (eqb n x.also || between x.low x.high n)
+allows x n = leb 1 n && (is_also x.also n || between x.low x.high n)

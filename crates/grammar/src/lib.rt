@@ -5,39 +5,25 @@ ghost use Rattle.std.specs.Prelude.{◌≡◌};
 ghost use Rattle.grammar.specs.Keywords.{assigns, keyword_of, kind_of, is_unit};
 ghost use Rattle.grammar.specs.Order.{only, one_of, opm_next, oem_next, next_of, allows};
 
+use lines::Form;
 use words::is_word;
 
-// The two types of message.
-#[derive(Clone, Copy)]
-pub enum Form {
-    Opm,
-    Oem,
-}
-
-// An assignment keyword's code, or no keyword of this type.
-#[derive(Clone, Copy)]
-pub enum Keyword {
-    Code(u16),
-    Unknown,
-}
-
-// What a code's value is: the heading's version, one of four, or nothing where nothing is assigned.
-#[derive(Clone, Copy)]
+// What an assigned value is: the heading's version, or one of four.
+#[derive(Clone, Copy, Debug, PartialEq, Eq)]
 pub enum Kind {
     Version,
     Text,
     Integer,
     Number,
     Epoch,
-    Nothing,
 }
 
-// What may follow: the codes from `low` to `high`, the code `also` (0: none), and the message's end.
-#[derive(Clone, Copy)]
+// What may follow: the codes from `low` to `high`, a code beside them, and the message's end.
+#[derive(Clone, Copy, Debug, PartialEq, Eq)]
 pub struct Next {
     pub low: u16,
     pub high: u16,
-    pub also: u16,
+    pub also: Option<u16>,
     pub end: bool,
 }
 
@@ -47,42 +33,31 @@ fn assigns_code(form: Form, code: u16) -> bool
     ensures { result ≡ assigns form code }
 {
     match form {
-        Form::Opm => match code {
-            1..=35 => true,
-            _ => false,
-        },
-        Form::Oem => match code {
-            2..=8 | 36 | 38..=43 => true,
-            _ => false,
-        },
+        Form::Opm => matches!(code, 1..=35),
+        Form::Oem => matches!(code, 2..=8 | 36 | 38..=43),
     }
 }
 
-// The code of an assignment's keyword.
+// The code of an assignment's keyword, where the message type has it.
 #[tactic(auto, unfolding(crate::specs::Keywords::keyword_of))]
-pub fn keyword_of(form: Form, text: &[u8]) -> Keyword
+pub fn keyword_of(form: Form, text: &[u8]) -> Option<u16>
     ensures { result ≡ keyword_of form text.now }
 {
-    let code = keywords::code_of(text);
-    if assigns_code(form, code) {
-        Keyword::Code(code)
-    } else {
-        Keyword::Unknown
-    }
+    keywords::code_of(text).filter(|&code| assigns_code(form, code))
 }
 
-// What kind of value a code has.
+// What kind of value a code has; META lines, comments and what is no code assign nothing.
 #[tactic(auto, unfolding(crate::specs::Rows::pick))]
-pub fn kind_of(code: u16) -> Kind
+pub fn kind_of(code: u16) -> Option<Kind>
     ensures { result ≡ kind_of code }
 {
     match code {
-        1 | 36 => Kind::Version,
-        3..=8 | 32 | 42 => Kind::Text,
-        43 => Kind::Integer,
-        2 | 9 | 29 | 38..=41 => Kind::Epoch,
-        10..=35 => Kind::Number,
-        _ => Kind::Nothing,
+        1 | 36 => Some(Kind::Version),
+        3..=8 | 32 | 42 => Some(Kind::Text),
+        43 => Some(Kind::Integer),
+        2 | 9 | 29 | 38..=41 => Some(Kind::Epoch),
+        10..=35 => Some(Kind::Number),
+        _ => None,
     }
 }
 
@@ -91,7 +66,7 @@ pub fn kind_of(code: u16) -> Kind
 pub fn unit_right(code: u16, text: &[u8]) -> bool
     ensures { result ≡ is_unit code text.now }
 {
-    if text.len() == 0 {
+    if text.is_empty() {
         return true;
     }
     match code {
@@ -109,12 +84,7 @@ pub fn unit_right(code: u16, text: &[u8]) -> bool
 fn only_code(code: u16) -> Next
     ensures { result ≡ only code }
 {
-    Next {
-        low: code,
-        high: code,
-        also: 0,
-        end: false,
-    }
+    one_of(code, code)
 }
 
 fn one_of(low: u16, high: u16) -> Next
@@ -123,7 +93,7 @@ fn one_of(low: u16, high: u16) -> Next
     Next {
         low,
         high,
-        also: 0,
+        also: None,
         end: false,
     }
 }
@@ -134,18 +104,14 @@ fn opm_next(last: u16) -> Next
 {
     match last {
         15 => Next {
-            low: 16,
-            high: 16,
-            also: 24,
-            end: false,
+            also: Some(24),
+            ..only_code(16)
         },
         20 => one_of(21, 22),
         21 => only_code(23),
         28 | 35 => Next {
-            low: 29,
-            high: 29,
-            also: 0,
             end: true,
+            ..only_code(29)
         },
         0..=34 => only_code(last + 1),
         _ => only_code(0),
@@ -166,25 +132,20 @@ fn oem_next(last: u16) -> Next
         8 => only_code(38),
         38..=40 => one_of(last + 1, 41),
         41 => Next {
-            low: 42,
-            high: 42,
-            also: 44,
-            end: false,
+            also: Some(44),
+            ..only_code(42)
         },
         42 => only_code(43),
         43 => only_code(44),
         44 => only_code(9),
         9 => Next {
-            low: 9,
-            high: 9,
-            also: 37,
+            also: Some(37),
             end: true,
+            ..only_code(9)
         },
         45 => Next {
-            low: 37,
-            high: 37,
-            also: 0,
             end: true,
+            ..only_code(37)
         },
         _ => only_code(0),
     }
@@ -206,14 +167,5 @@ pub fn next_of(form: Form, last: u16) -> Next
 pub fn allows_code(next: Next, code: u16) -> bool
     ensures { result ≡ allows next code }
 {
-    if code < 1 {
-        return false;
-    }
-    if code == next.also {
-        return true;
-    }
-    if code < next.low {
-        return false;
-    }
-    code <= next.high
+    code >= 1 && (next.also == Some(code) || (next.low..=next.high).contains(&code))
 }

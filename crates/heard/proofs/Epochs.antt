@@ -14,8 +14,6 @@ use Rattle.lines.specs.Text.{is_odd}
 use Rattle.values.specs.Number.{digits}
 use Rattle.epochs.specs.Epoch.{fits, shaped, year_at, is_clock, is_fraction, timed_of, epoch_of}
 use Rattle.epochs.specs.declared.Instant.{Instant}
-use Rattle.epochs.specs.declared.Epoch.{Epoch}
-use Rattle.epochs.specs.declared.Epoch.TheVariants.{At, Bad}
 use Rattle.grammar.specs.Rows.{Row, between, pick}
 use Rattle.grammar.proofs.Laws.{picks}
 use Rattle.spoken.specs.Saying.{said_by, calendar_marks, ordinal_marks, mark_at, said_from, words_by}
@@ -28,6 +26,7 @@ use Rattle.written.proofs.Bytes.{Passes, pass_cons, pass_split}
 use Rattle.heard.specs.Hearing.{epoch_sayings, saying_at, heard_from}
 use Rattle.heard.proofs.Hearings.{Figures, clear_epochs, heard_itself, heard_figures, said_itself}
 use Rattle.heard.proofs.Numerals.{digit_figure}
+use Rattle.std.specs.Prelude.{Option, Some, None}
 
 -- ---- a shape, read back place by place
 
@@ -120,16 +119,16 @@ pub record Shaped (v w : List ℕ) : Type 0 where
   pub shape : shaped w v ≡ true
   pub fraction : is_fraction (drop (length w) v) ≡ true
 
-pub is_at : (c : Bool) (x t : Instant) → elim c [ true ↦ At x | false ↦ Bad ] ≡ At t → c ≡ true
+pub is_at : (c : Bool) (x t : Instant) → elim c [ true ↦ Some x | false ↦ None ] ≡ Some t → c ≡ true
 is_at true x t e = refl
 is_at false x t e = let z : ◌≡◌ {A = ℕ} 0 1 = cc in absurd (omega arith)
 
-timed_fraction : (s : List ℕ) (day at : ℕ) (sixty : Bool) (t : Instant) → timed_of s day at sixty ≡ At t → is_fraction (drop (at + 8) s) ≡ true
+timed_fraction : (s : List ℕ) (day : Option ℕ) (at : ℕ) (sixty : Bool) (t : Instant) → timed_of s day at sixty ≡ Some t → is_fraction (drop (at + 8) s) ≡ true
 unfolding timed_of
-timed_fraction s day at sixty t e =
-    let p = (and-eq-true_iff (leb 1 (year_at s)) (leb 1 day && (is_clock s at sixty && is_fraction (drop (at + 8) s)))).0 (is_at _ _ t e) in
-    let q = (and-eq-true_iff (leb 1 day) (is_clock s at sixty && is_fraction (drop (at + 8) s))).0 p.1 in
-    ((and-eq-true_iff (is_clock s at sixty) (is_fraction (drop (at + 8) s))).0 q.1).1
+timed_fraction s None at sixty t e = cc
+timed_fraction s (Some day) at sixty t e =
+    let p = (and-eq-true_iff (leb 1 (year_at s)) (is_clock s at sixty && is_fraction (drop (at + 8) s))).0 (is_at _ _ t e) in
+    ((and-eq-true_iff (is_clock s at sixty) (is_fraction (drop (at + 8) s))).0 p.1).1
 
 abbrev pub calendar_shape : List ℕ
 calendar_shape = bytes "0000-00-00T00:00:00"
@@ -137,16 +136,16 @@ calendar_shape = bytes "0000-00-00T00:00:00"
 abbrev pub ordinal_shape : List ℕ
 ordinal_shape = bytes "0000-000T00:00:00"
 
-pub epoch_shape : (v : List ℕ) (sixty : Bool) (t : Instant) → epoch_of v sixty ≡ At t
+pub epoch_shape : (v : List ℕ) (sixty : Bool) (t : Instant) → epoch_of v sixty ≡ Some t
     → Shaped v calendar_shape ⊎ ((shaped calendar_shape v ≡ false) × Shaped v ordinal_shape)
 unfolding epoch_of bytes
 epoch_shape v sixty t e =
     go (shaped calendar_shape v) (shaped ordinal_shape v) _ _ refl refl e (timed_fraction v _ 11 sixty t) (timed_fraction v _ 9 sixty t)
   where
-    go : (a b : Bool) (x y : Epoch) → shaped calendar_shape v ≡ a → shaped ordinal_shape v ≡ b
-        → elim a [ true ↦ x | false ↦ elim b [ true ↦ y | false ↦ Bad ] ] ≡ At t
-        → (x ≡ At t → is_fraction (drop 19 v) ≡ true)
-        → (y ≡ At t → is_fraction (drop 17 v) ≡ true)
+    go : (a b : Bool) (x y : Option Instant) → shaped calendar_shape v ≡ a → shaped ordinal_shape v ≡ b
+        → elim a [ true ↦ x | false ↦ elim b [ true ↦ y | false ↦ None ] ] ≡ Some t
+        → (x ≡ Some t → is_fraction (drop 19 v) ≡ true)
+        → (y ≡ Some t → is_fraction (drop 17 v) ≡ true)
         → Shaped v calendar_shape ⊎ ((shaped calendar_shape v ≡ false) × Shaped v ordinal_shape)
     go true b x y p q h f g = inl (record { shape = p; fraction = f h })
     go false true x y p q h f g = inr (p, record { shape = q; fraction = g h })

@@ -15,20 +15,15 @@ use Rattle.lines.specs.Text.{is_long, odd_at}
 use Rattle.values.specs.Number.{is_number, is_integer, is_text, is_version}
 use Rattle.epochs.specs.Epoch.{shaped, two_at, year_at, is_fraction, last_second, is_clock, timed_of, epoch_of}
 use Rattle.epochs.specs.declared.Instant.{Instant}
-use Rattle.epochs.specs.declared.Epoch.{Epoch}
-use Rattle.epochs.specs.declared.Epoch.TheVariants.{At, Bad}
 use Rattle.grammar.specs.Rows.{pick}
 use Rattle.grammar.specs.Keywords.{kind_of}
 use Rattle.grammar.specs.declared.Kind.{Kind}
-use Rattle.grammar.specs.declared.Kind.TheVariants.{Version, Text, Integer, Number, Epoch as EpochKind, Nothing}
+use Rattle.grammar.specs.declared.Kind.TheVariants.{Version, Text, Integer, Number, Epoch as EpochKind}
 use Rattle.spoken.specs.Saying.{said_from, mark_at, words_by}
 use Rattle.spoken.specs.Way.{way_if, epoch_way, way_in, way_of}
 use Rattle.spoken.specs.Spoken.{spoken_by, spoken_of, words_in, words_of}
 use Rattle.spoken.specs.declared.Manner.{Manner}
 use Rattle.spoken.specs.declared.Manner.TheVariants.{Plain, Numeral, Calendar, Ordinal}
-use Rattle.spoken.specs.declared.Way.{Way}
-use Rattle.spoken.specs.declared.Way.TheVariants.{By, Unsaid}
-use Rattle.spoken.specs.declared.Spoken.TheVariants.{Words}
 use Rattle.spoken.proofs.Laws.{way_comment, way_kind, fitted-words}
 use Rattle.written.proofs.Bytes.{pass_cons}
 use Rattle.heard.specs.Hearing.{numeral_sayings, sayings_of, saying_at, heard_from, heard_of, capital, spelled_in, spelled_of}
@@ -36,6 +31,7 @@ use Rattle.heard.specs.Heard.{HeardBack, HeardApart, AllPlain, RightIn, AllSaid}
 use Rattle.heard.proofs.Hearings.{heard_none, said_itself}
 use Rattle.heard.proofs.Numerals.{AllKnown, Known, Fine, heard_numeral, number_fine, integer_fine, integer_capital}
 use Rattle.heard.proofs.Epochs.{Shaped, heard, is_at, epoch_shape, calendar_shape, ordinal_shape, calendar_worded, ordinal_worded, epoch_long, epoch_back, epoch_plain, plain, between-plain}
+use Rattle.std.specs.Prelude.{Option, Some, None, Ok}
 
 -- ---- in each manner, reading back undoes the words
 
@@ -60,32 +56,32 @@ ordinal_back v e = epoch_back Ordinal ordinal_shape ordinal_worded v e
 
 -- ---- by the kind of value
 
-abbrev Undone : Kind → List ℕ → Way → Type 0
-Undone k v w = (w ≡ Unsaid → ⊥) → heard_from (sayings_of k) 0 (words_in w v) ≡ spelled_in k v
+abbrev Undone : Option Kind → List ℕ → Option Manner → Type 0
+Undone k v w = (w ≡ None → ⊥) → heard_from (sayings_of k) 0 (words_in w v) ≡ spelled_in k v
 
-if_back : (k : Kind) (v : List ℕ) (m : Manner) (t : Bool) → (t ≡ true → heard_from (sayings_of k) 0 (words_by m v) ≡ spelled_in k v) → Undone k v (way_if t m)
+if_back : (k : Option Kind) (v : List ℕ) (m : Manner) (t : Bool) → (t ≡ true → heard_from (sayings_of k) 0 (words_by m v) ≡ spelled_in k v) → Undone k v (way_if t m)
 unfolding words_in
 if_back k v m true g h = g refl
 if_back k v m false g h = absurd (h refl)
 
-epoch_undone : (v : List ℕ) → Undone EpochKind v (epoch_way v)
+epoch_undone : (v : List ℕ) → Undone (Some EpochKind) v (epoch_way v)
 unfolding epoch_way words_in
 epoch_undone v h = go (epoch_of v true) refl h
   where
-    go : (e : Epoch) → epoch_of v true ≡ e
-        → Undone EpochKind v (elim e [ At t ↦ elim (shaped calendar_shape v) [ true ↦ By Calendar | false ↦ By Ordinal ] | Bad ↦ Unsaid ])
-    go Bad q f = absurd (f refl)
-    go (At t) q f =
+    go : (e : Option Instant) → epoch_of v true ≡ e
+        → Undone (Some EpochKind) v (elim e [ Some t ↦ elim (shaped calendar_shape v) [ true ↦ Some Calendar | false ↦ Some Ordinal ] | None ↦ None ])
+    go None q f = absurd (f refl)
+    go (Some t) q f =
         ⊎_elim (λ s. rw s.shape (calendar_back v s)) (λ s. rw s.0 (ordinal_back v s.1)) (epoch_shape v true t q)
 
-kind_back : (k : Kind) (v : List ℕ) → Undone k v (way_in k v)
+kind_back : (k : Option Kind) (v : List ℕ) → Undone k v (way_in k v)
 unfolding way_in
-kind_back Version v = if_back Version v Plain (is_version v) (λ e. plain_back v)
-kind_back Text v = if_back Text v Plain (is_text v) (λ e. plain_back v)
-kind_back Integer v = if_back Integer v Numeral (is_integer v) (λ e. numeral_back v (integer_fine v e).known ∙ integer_capital v e)
-kind_back Number v = if_back Number v Numeral (is_number v) (λ e. numeral_back v (number_fine v e).known)
-kind_back EpochKind v = epoch_undone v
-kind_back Nothing v = λ h. absurd (h refl)
+kind_back (Some Version) v = if_back (Some Version) v Plain (is_version v) (λ e. plain_back v)
+kind_back (Some Text) v = if_back (Some Text) v Plain (is_text v) (λ e. plain_back v)
+kind_back (Some Integer) v = if_back (Some Integer) v Numeral (is_integer v) (λ e. numeral_back v (integer_fine v e).known ∙ integer_capital v e)
+kind_back (Some Number) v = if_back (Some Number) v Numeral (is_number v) (λ e. numeral_back v (number_fine v e).known)
+kind_back (Some EpochKind) v = epoch_undone v
+kind_back None v = λ h. absurd (h refl)
 
 comment_back : (v : List ℕ) → heard_of 45 (words_by Plain v) ≡ spelled_of 45 v
 unfolding pick
@@ -96,7 +92,7 @@ unfolding way_of words_in
 heard_back c v h = go (is_long v || ltb (odd_at v) (length v)) (eqb c 45) refl h
   where
     go : (a b : Bool) → eqb c 45 ≡ b
-        → Undone (kind_of c) v (elim a [ true ↦ Unsaid | false ↦ elim b [ true ↦ By Plain | false ↦ way_in (kind_of c) v ] ])
+        → Undone (kind_of c) v (elim a [ true ↦ None | false ↦ elim b [ true ↦ Some Plain | false ↦ way_in (kind_of c) v ] ])
     go true b q f = absurd (f refl)
     go false true q f = subst (λ (n : ℕ). heard_of n (words_by Plain v) ≡ spelled_of n v) (sym (eqb-true c 45 q)) (comment_back v)
     go false false q f = kind_back (kind_of c) v f
@@ -107,9 +103,9 @@ heard_apart c v w h k e = sym (heard_back c v h) ∙ ap (heard_of c) e ∙ heard
 -- ---- what is right has words, and 259 bytes are room enough
 
 -- this kind of value is said in this manner, plainly, and not at length
-record Sayable (k : Kind) (v : List ℕ) : Type 0 where
+record Sayable (k : Option Kind) (v : List ℕ) : Type 0 where
   manner : Manner
-  way : way_in k v ≡ By manner
+  way : way_in k v ≡ Some manner
   plain : AllPlain v
   room : length (words_by manner v) ≤ 259
 
@@ -149,39 +145,39 @@ clock_sixty s at e =
     let m : two_at s (at + 6) ≤ last_second (two_at s at) (two_at s (at + 3)) true = omega (arith, last-sixty (two_at s at) (two_at s (at + 3))) in
     rw (p.0, q.0) (le-leb _ _ m)
 
-at_true : (a : Bool) (x t : Instant) → elim a [ true ↦ At x | false ↦ Bad ] ≡ At t → At x ≡ At t
+at_true : (a : Bool) (x t : Instant) → elim a [ true ↦ Some x | false ↦ None ] ≡ Some t → Some x ≡ Some t
 at_true true x t e = e
 at_true false x t e = let z : ◌≡◌ {A = ℕ} 0 1 = cc in absurd (omega arith)
 
-at_more : (a b : Bool) (x t : Instant) → (a ≡ true → b ≡ true) → elim a [ true ↦ At x | false ↦ Bad ] ≡ At t → elim b [ true ↦ At x | false ↦ Bad ] ≡ At t
+at_more : (a b : Bool) (x t : Instant) → (a ≡ true → b ≡ true) → elim a [ true ↦ Some x | false ↦ None ] ≡ Some t → elim b [ true ↦ Some x | false ↦ None ] ≡ Some t
 at_more a true x t f e = at_true a x t e
 at_more a false x t f e = absurd (false≢true (f (is_at a x t e)))
 
-timed_sixty : (s : List ℕ) (day at : ℕ) (t : Instant) → timed_of s day at false ≡ At t → timed_of s day at true ≡ At t
+timed_sixty : (s : List ℕ) (day : Option ℕ) (at : ℕ) (t : Instant) → timed_of s day at false ≡ Some t → timed_of s day at true ≡ Some t
 unfolding timed_of
-timed_sixty s day at t e =
+timed_sixty s None at t e = e
+timed_sixty s (Some day) at t e =
     at_more _ _ _ t
     (λ x.
-    let p = (and-eq-true_iff (leb 1 (year_at s)) (leb 1 day && (is_clock s at false && is_fraction (drop (at + 8) s)))).0 x in
-    let q = (and-eq-true_iff (leb 1 day) (is_clock s at false && is_fraction (drop (at + 8) s))).0 p.1 in
-    let r = (and-eq-true_iff (is_clock s at false) (is_fraction (drop (at + 8) s))).0 q.1 in
-    (and-eq-true_iff _ _).1 (p.0, (and-eq-true_iff _ _).1 (q.0, (and-eq-true_iff _ _).1 (clock_sixty s at r.0, r.1))))
+    let p = (and-eq-true_iff (leb 1 (year_at s)) (is_clock s at false && is_fraction (drop (at + 8) s))).0 x in
+    let r = (and-eq-true_iff (is_clock s at false) (is_fraction (drop (at + 8) s))).0 p.1 in
+    (and-eq-true_iff _ _).1 (p.0, (and-eq-true_iff _ _).1 (clock_sixty s at r.0, r.1)))
     e
 
-epoch_sixty : (v : List ℕ) (sixty : Bool) (t : Instant) → epoch_of v sixty ≡ At t → epoch_of v true ≡ At t
+epoch_sixty : (v : List ℕ) (sixty : Bool) (t : Instant) → epoch_of v sixty ≡ Some t → epoch_of v true ≡ Some t
 unfolding epoch_of
 epoch_sixty v true t e = e
 epoch_sixty v false t e =
     go (shaped calendar_shape v) (shaped ordinal_shape v) (timed_sixty v _ 11 t) (timed_sixty v _ 9 t) e
   where
-    go : (a b : Bool) {x y u w : Epoch} → (x ≡ At t → y ≡ At t) → (u ≡ At t → w ≡ At t)
-        → elim a [ true ↦ x | false ↦ elim b [ true ↦ u | false ↦ Bad ] ] ≡ At t
-        → elim a [ true ↦ y | false ↦ elim b [ true ↦ w | false ↦ Bad ] ] ≡ At t
+    go : (a b : Bool) {x y u w : Option Instant} → (x ≡ Some t → y ≡ Some t) → (u ≡ Some t → w ≡ Some t)
+        → elim a [ true ↦ x | false ↦ elim b [ true ↦ u | false ↦ None ] ] ≡ Some t
+        → elim a [ true ↦ y | false ↦ elim b [ true ↦ w | false ↦ None ] ] ≡ Some t
     go true b f g h = f h
     go false true f g h = g h
     go false false f g h = h
 
-epoch_sayable : (v : List ℕ) (sixty : Bool) (t : Instant) → epoch_of v sixty ≡ At t → Sayable EpochKind v
+epoch_sayable : (v : List ℕ) (sixty : Bool) (t : Instant) → epoch_of v sixty ≡ Some t → Sayable (Some EpochKind) v
 unfolding way_in epoch_way run bytes
 epoch_sayable v sixty t e =
     let f = epoch_sixty v sixty t e in
@@ -202,23 +198,23 @@ epoch_sayable v sixty t e =
     })
     (epoch_shape v true t f)
 
-sayable : (k : Kind) (v : List ℕ) → RightIn k v → length v ≤ 254 → Sayable k v
+sayable : (k : Option Kind) (v : List ℕ) → RightIn k v → length v ≤ 254 → Sayable k v
 unfolding way_in bytes run
-sayable Version v r h =
+sayable (Some Version) v r h =
     let w = word-is (bytes "1.0") v r in
     record { manner = Plain; way = rw r; plain = rw w; room = rw plain-words (omega arith) }
-sayable Text v r h = record { manner = Plain; way = rw r.0; plain = r.1; room = rw plain-words (omega arith) }
-sayable Integer v r h =
+sayable (Some Text) v r h = record { manner = Plain; way = rw r.0; plain = r.1; room = rw plain-words (omega arith) }
+sayable (Some Integer) v r h =
     let x = integer_fine v r in
     record { manner = Numeral; way = rw r; plain = all_known_plain v x.known; room = omega (arith, numeral_long v _ x) }
-sayable Number v r h =
+sayable (Some Number) v r h =
     let x = number_fine v r in
     record { manner = Numeral; way = rw r; plain = all_known_plain v x.known; room = omega (arith, numeral_long v _ x) }
-sayable EpochKind v r h = epoch_sayable v r.0 r.1 r.2
-sayable Nothing v r h = absurd r
+sayable (Some EpochKind) v r h = epoch_sayable v r.0 r.1 r.2
+sayable None v r h = absurd r
 
 -- what is said in a manner that has room is said
-said_so : (c : ℕ) (v : List ℕ) (room : ℕ) (m : Manner) → way_of c v ≡ By m → length (words_by m v) ≤ room → spoken_of c v room ≡ Words (length (words_of c v))
+said_so : (c : ℕ) (v : List ℕ) (room : ℕ) (m : Manner) → way_of c v ≡ Some m → length (words_by m v) ≤ room → spoken_of c v room ≡ Ok (length (words_of c v))
 unfolding spoken_by words_in
 said_so c v room m e h = rw e (fitted-words (words_by m v) room h)
 

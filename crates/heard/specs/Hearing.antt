@@ -1,11 +1,11 @@
 -- Words read back to the value: what a listener does who knows the code. Each time some words stand, they are read as what they stand for; any other byte is
 -- itself.
 -- Assumes nothing.
-use Rattle.std.specs.Prelude.{ℕ, zero, suc, ◌-◌, List, [], ◌∷◌, ◌++◌, map, true, false, eqb, length}
+use Rattle.std.specs.Prelude.{ℕ, zero, suc, ◌-◌, List, [], ◌∷◌, ◌++◌, map, true, false, eqb, length, Option, Some, None}
 use Rattle.words.specs.Words.{bytes, begins}
 use Rattle.grammar.specs.Keywords.{kind_of}
 use Rattle.grammar.specs.declared.Kind.{Kind}
-use Rattle.grammar.specs.declared.Kind.TheVariants.{Version, Text, Integer, Number, Epoch, Nothing}
+use Rattle.grammar.specs.declared.Kind.TheVariants.{Version, Text, Integer, Number, Epoch}
 
 -- some words, and the bytes that they stand for
 pub record Saying : Type 0 where
@@ -34,13 +34,13 @@ epoch_sayings =
     ∷ []
 
 -- a text, a comment and the version have no such words
-abbrev pub sayings_of : Kind → List Saying
-sayings_of Number = numeral_sayings
-sayings_of Integer = numeral_sayings
-sayings_of Epoch = epoch_sayings
-sayings_of Version = []
-sayings_of Text = []
-sayings_of Nothing = []
+abbrev pub sayings_of : Option Kind → List Saying
+sayings_of (Some Number) = numeral_sayings
+sayings_of (Some Integer) = numeral_sayings
+sayings_of (Some Epoch) = epoch_sayings
+sayings_of (Some Version) = []
+sayings_of (Some Text) = []
+sayings_of None = []
 
 -- the saying that stands first in a text, or its first byte for itself
 unfoldable pub saying_at : List Saying → ℕ → List ℕ → Saying
@@ -61,13 +61,13 @@ heard_of c w = heard_from (sayings_of (kind_of c)) 0 w
 abbrev pub capital : ℕ → ℕ
 capital b = elim (eqb b 101) [ true ↦ 69 | false ↦ b ]
 
-abbrev pub spelled_in : Kind → List ℕ → List ℕ
-spelled_in Number v = map (λ b. capital b) v
-spelled_in Integer v = v
-spelled_in Epoch v = v
-spelled_in Version v = v
-spelled_in Text v = v
-spelled_in Nothing v = v
+abbrev pub spelled_in : Option Kind → List ℕ → List ℕ
+spelled_in (Some Number) v = map (λ b. capital b) v
+spelled_in (Some Integer) v = v
+spelled_in (Some Epoch) v = v
+spelled_in (Some Version) v = v
+spelled_in (Some Text) v = v
+spelled_in None v = v
 
 abbrev pub spelled_of : ℕ → List ℕ → List ℕ
 spelled_of c v = spelled_in (kind_of c) v

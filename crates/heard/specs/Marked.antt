@@ -1,19 +1,18 @@
 -- Values said, settled on the definitions themselves.
 -- Assumes nothing.
-use Rattle.std.specs.Prelude.{ℕ, ◌≡◌, length}
+use Rattle.std.specs.Prelude.{ℕ, ◌≡◌, length, Ok, Err}
 use Prim.Native.String.{String}
 use Rattle.words.specs.Words.{bytes}
 use Rattle.reasons.specs.declared.Reason.TheVariants as Reasons
 use Rattle.spoken.specs.Spoken.{spoken_of, words_of}
-use Rattle.spoken.specs.declared.Spoken.TheVariants.{Words, Refused}
 
 -- the value of this code is said so, into a buffer of just that length
 abbrev Says : ℕ → String → String → Type 0
-Says c v w = (words_of c (bytes v) ≡ bytes w) × (spoken_of c (bytes v) (length (bytes w)) ≡ Words (length (bytes w)))
+Says c v w = (words_of c (bytes v) ≡ bytes w) × (spoken_of c (bytes v) (length (bytes w)) ≡ Ok (length (bytes w)))
 
 -- the value of this code is not said, however much room there is
 abbrev IsWrong : ℕ → String → Type 0
-IsWrong c v = spoken_of c (bytes v) 259 ≡ Refused Reasons.Value
+IsWrong c v = spoken_of c (bytes v) 259 ≡ Err Reasons.Value
 
 -- a number (13, X_DOT) and an integer (43)
 abbrev pub Numbers : Type 0
@@ -49,8 +48,8 @@ Wrong =
     × IsWrong 44 ""
     × IsWrong 0 "5"
     × IsWrong 46 "5"
-    × (spoken_of 43 (bytes "5.0") 0 ≡ Refused Reasons.Value)
-    × (spoken_of 43 (bytes "-5") 6 ≡ Refused Reasons.NoRoom)
+    × (spoken_of 43 (bytes "5.0") 0 ≡ Err Reasons.Value)
+    × (spoken_of 43 (bytes "-5") 6 ≡ Err Reasons.NoRoom)
 
 abbrev pub Marked : Type 0
 Marked = Numbers × Epochs × Texts × Wrong

@@ -1,65 +1,67 @@
 // A feed's messages found and judged, line by line.
 #![tactic(auto)]
 
-ghost use Rattle.std.specs.Prelude.{◌≡◌, true, ◌≤◌, length, drop};
-ghost use Rattle.lines.specs.Feed.{lines, lines_at};
-ghost use Rattle.step.specs.Step.{no_row, fresh_state};
-ghost use Rattle.judge.specs.Message.{is_heading, form_of, from_heading, headings, up_to, texts, end_of, judge_texts, judge_of, count_of, met_of, moved_of, SureNext, feed_limit, found_of, FoundIs, sighted_of, SightedIs};
+ghost use Rattle.std.specs.Prelude.{◌≡◌, true, not, ◌&&◌, ◌≤◌, length, drop, IfOk, IfErr};
+ghost use Rattle.lines.specs.Feed.{lines, lines_at, line_of};
+ghost use Rattle.step.specs.Step.{fresh_state};
+ghost use Rattle.judge.specs.Message.{of_feed, is_heading, from_heading, headings, up_to, stop_of, walk_of, judged_by, judge_of, count_of, moved_of, SureNext, feed_limit, found_of, opened_by, FoundIs, Sought, Unfound, sighted_of, SightedIs};
 
-use grammar::Form;
-use lines::Heading;
+use lines::{FeedLine, Form};
 use reasons::Reason;
-use step::{State, Step, Verdict};
+use step::{State, Step};
 
 // A feed has at most so many bytes.
 pub const FEED_LIMIT: usize = 16777215;
 
-// Accepted with its row count, or a reason and a line.
-#[derive(Clone, Copy)]
-pub enum Judged {
-    Accepted(u32),
-    Refused(Reason, u32),
+// Why a message is refused: the reason, and the line, or 0 where it is no line's: the theorems on refusals say so, and C has it so.
+#[derive(Clone, Copy, Debug, PartialEq, Eq)]
+pub struct Refusal {
+    pub reason: Reason,
+    pub line: u32,
 }
 
-// How many headings a feed has, or why they are not counted.
-#[derive(Clone, Copy)]
-pub enum Counted {
-    Headings(u32),
-    Barred(Reason),
+// A refusal that is no line's.
+impl From<Reason> for Refusal {
+    ghost from_gives = { λ reason refusal. refusal ≡ of_feed reason };
+
+    fn from(reason: Reason) -> Refusal {
+        Refusal { reason, line: 0 }
+    }
 }
 
-// What a walk along a message meets: its end, a line that offends, or a line that is right.
-#[derive(Clone, Copy)]
-pub enum Met {
-    End,
-    Offence(Reason),
-    Within,
-}
-
-// One step of a walk along a message: what it met, the line judged, and the place of the next line.
-#[derive(Clone, Copy)]
+// One step of a walk along a message: the line judged, and the place of the next line.
+#[derive(Clone, Copy, Debug, PartialEq, Eq)]
 pub struct Moved {
-    pub met: Met,
     pub step: Step,
     pub next: usize,
 }
 
-// Where a message starts and its type, or no such message.
-#[derive(Clone, Copy)]
-pub enum Found {
-    Place(usize, Form),
-    Missing,
+// Where a walk along a message came to its end: the place, the line, the rows of the lines before it, the state there, and why the line offends, if one does.
+#[derive(Clone, Copy, Debug, PartialEq, Eq)]
+pub struct Stop {
+    pub at: usize,
+    pub line: u32,
+    pub rows: u32,
+    pub state: State,
+    pub offence: Option<Reason>,
 }
 
-// A message judged: where one that is right starts, its type and its row count; else a reason and a line.
-#[derive(Clone, Copy)]
-pub enum Sighted {
-    Right(usize, Form, u32),
-    Wrong(Reason, u32),
+// Where a message starts, and its type.
+#[derive(Clone, Copy, Debug, PartialEq, Eq)]
+pub struct Found {
+    pub at: usize,
+    pub form: Form,
+}
+
+// A message that is right: where it starts, its type and its row count.
+#[derive(Clone, Copy, Debug, PartialEq, Eq)]
+pub struct Sighted {
+    pub found: Found,
+    pub rows: u32,
 }
 
 // A row of the table.
-#[derive(Clone, Copy)]
+#[derive(Clone, Copy, Debug, PartialEq, Eq)]
 pub struct Row {
     pub code: u32,
     pub group: u32,
@@ -71,183 +73,167 @@ pub struct Row {
 fn is_heading(text: &[u8]) -> bool
     ensures { result ≡ is_heading text.now }
 {
-    match lines::heading_of(text) {
-        Heading::Opm => true,
-        Heading::Oem => true,
-        Heading::Nothing => false,
-    }
+    lines::heading_of(text).is_some()
 }
 
-// The type that a heading line opens.
-fn form_of(text: &[u8]) -> Form
-    ensures { result ≡ form_of text.now }
+// The message that a line opens, where it is a heading line.
+fn opened_by(line: FeedLine<'_>) -> Option<Found>
+    ensures { result ≡ opened_by (line_of line.entry) }
 {
-    match lines::heading_of(text) {
-        Heading::Opm => Form::Opm,
-        Heading::Oem => Form::Oem,
-        Heading::Nothing => Form::Opm,
-    }
+    let form = lines::heading_of(line.text)?;
+    Some(Found { at: line.at, form })
 }
 
 // The place of the heading line with this number, from 1.
-#[tactic(auto, using(crate::proofs::Laws::found_now, crate::proofs::Laws::found_there, crate::proofs::Laws::found_later, lines::proofs::Lists::placed))]
-pub fn find_message(feed: &[u8], message: usize) -> Found
+#[tactic(auto, using(crate::proofs::Laws::found_none, crate::proofs::Laws::found_is))]
+pub fn find_message(feed: &[u8], message: usize) -> Option<Found>
     ensures answer { result ≡ found_of (from_heading message (lines feed.now)) }
     ensures lines { FoundIs result message feed.now }
 {
-    if message == 0 {
-        return Found::Missing;
-    }
-    let mut left = message;
-    let mut at = 0;
-    while at < feed.len() {
-        let ends = lines::line_at(feed, at);
-        let end = ends.end;
-        let text = &feed[at..end];
-        if is_heading(text) {
-            if left == 1 {
-                return Found::Place(at, form_of(text));
-            }
-            left -= 1;
-        }
-        at = ends.next;
-    }
-    Found::Missing
+    let before = message.checked_sub(1)?;
+    lines::lines_of(feed).filter_map(opened_by).nth(before)
 }
 
 // How many heading lines a feed has.
+#[tactic(auto, using(lines::proofs::Lists::lines_few))]
 fn headings_in(feed: &[u8]) -> u32
     requires { length feed.now ≤ feed_limit }
     ensures { result ≡ headings (lines feed.now) }
 {
-    let mut n: u32 = 0;
-    let mut at = 0;
-    while at < feed.len() {
-        let ends = lines::line_at(feed, at);
-        let end = ends.end;
-        if is_heading(&feed[at..end]) {
-            n += 1;
-        }
-        at = ends.next;
-    }
-    n
+    lines::lines_of(feed)
+        .filter(|line| is_heading(line.text))
+        .count() as u32
 }
 
 // How many messages a feed has.
-pub fn count_headings(feed: &[u8]) -> Counted
+pub fn count_headings(feed: &[u8]) -> Result<u32, Reason>
     ensures { result ≡ count_of feed.now }
 {
     if FEED_LIMIT < feed.len() {
-        return Counted::Barred(Reason::FeedLong);
+        return Err(Reason::FeedLong);
     }
-    Counted::Headings(headings_in(feed))
+    Ok(headings_in(feed))
 }
 
-// The next line of a message, judged; shared by judging and by the walks that come behind, which are sure of every line.
-pub fn next_line(feed: &[u8], at: usize, first: bool, state: State, sure: bool) -> Moved
+// A line with which the next message begins; a message's first line is its own, heading or not.
+fn is_over(text: &[u8], first: bool) -> bool
+    ensures { result ≡ (not first && is_heading text.now) }
+{
+    !first && is_heading(text)
+}
+
+// The next line of a message, judged, or none at the message's end; shared by judging and by the walks that come behind, which are sure of every line.
+// Five arguments, since its promise speaks of these five.
+pub fn next_line(
+    feed: &[u8],
+    at: usize,
+    first: bool,
+    state: State,
+    sure: bool,
+) -> Result<Option<Moved>, Reason>
     requires { SureNext sure state (up_to first (lines_at at (drop at feed.now))) }
     ensures { result ≡ moved_of state at (drop at feed.now) (up_to first (lines_at at (drop at feed.now))) }
 {
     if feed.len() <= at {
-        return over(at, state);
+        return Ok(None);
     }
     let ends = lines::line_at(feed, at);
-    let end = ends.end;
-    let text = &feed[at..end];
-    if !first {
-        if is_heading(text) {
-            return over(at, state);
-        }
+    let text = &feed[at..ends.end];
+    if is_over(text, first) {
+        return Ok(None);
     }
-    let step = state.step(text, sure);
-    let verdict = step.verdict;
-    let met = met_by(verdict);
-    Moved {
-        met,
+    let step = state.step(text, sure)?;
+    Ok(Some(Moved {
         step,
         next: ends.next,
-    }
+    }))
 }
 
-fn met_by(verdict: Verdict) -> Met
-    ensures { result ≡ met_of verdict }
-{
-    match verdict {
-        Verdict::Wrong(r) => Met::Offence(r),
-        Verdict::Right => Met::Within,
+impl Stop {
+    // What the end says of the message: its rows, the offence, or SHORT at the line after the last.
+    #[tactic(auto, unfolding(crate::specs::Message::judged_by, crate::specs::Message::end_of))]
+    pub fn judged(self) -> Result<u32, Refusal>
+        ensures { result ≡ judged_by self }
+    {
+        let line = self.line;
+        if let Some(reason) = self.offence {
+            return Err(Refusal { reason, line });
+        }
+        if grammar::next_of(self.state.form, self.state.last).end {
+            return Ok(self.rows);
+        }
+        Err(Refusal {
+            reason: Reason::Short,
+            line,
+        })
     }
-}
-
-// The message is over.
-fn over(at: usize, state: State) -> Moved
-    ensures { result ≡ record { met = Met.End; step = no_row state; next = at } }
-{
-    Moved {
-        met: Met::End,
-        step: state.no_row(),
-        next: at,
-    }
-}
-
-// At the end of a message: the rows, or SHORT at the line after the last.
-fn end_of(state: State, line: u32, rows: u32) -> Judged
-    ensures { result ≡ end_of state line rows }
-{
-    let form = state.form;
-    if grammar::next_of(form, state.last).end {
-        return Judged::Accepted(rows);
-    }
-    Judged::Refused(Reason::Short, line)
 }
 
 // The message that starts at a place, judged line by line.
-fn judge_from(feed: &[u8], from: usize, form: Form) -> Judged
-    requires { length feed.now ≤ feed_limit }
-    ensures { result ≡ judge_texts (fresh_state form) 1 0 (texts (up_to true (lines_at from (drop from feed.now)))) }
+fn walk_from(feed: &[u8], found: Found) -> Stop
+    requires { (length feed.now ≤ feed_limit) × (found.at ≤ length feed.now) }
+    ensures { result ≡ stop_of (length feed.now) true (fresh_state found.form) 1 0 (lines_at found.at (drop found.at feed.now)) }
 {
-    let mut at = from;
-    let mut line: u32 = 1;
-    let mut rows: u32 = 0;
-    let mut state = State::fresh(form);
-    loop {
-        let moved = next_line(feed, at, line == 1, state, false);
-        let met = moved.met;
-        match met {
-            Met::End => return end_of(state, line, rows),
-            Met::Offence(r) => return Judged::Refused(r, line),
-            Met::Within => {}
+    let mut stop = Stop {
+        at: found.at,
+        line: 1,
+        rows: 0,
+        state: State::fresh(found.form),
+        offence: None,
+    };
+    // no iterator: each line is asked for with the state that the one before left
+    'lines: loop {
+        match next_line(feed, stop.at, stop.line == 1, stop.state, false) {
+            Err(reason) => {
+                return Stop {
+                    offence: Some(reason),
+                    ..stop
+                };
+            }
+            Ok(None) => return stop,
+            Ok(Some(moved)) => {
+                stop.rows += moved.step.count as u32;
+                stop.line += 1;
+                stop.state = moved.step.state;
+                stop.at = moved.next;
+            }
         }
-        let step = moved.step;
-        rows += step.count as u32;
-        line += 1;
-        state = step.state;
-        at = moved.next;
     }
+}
+
+// A message of a feed that is not too long.
+#[tactic(auto, using(crate::proofs::Laws::sought, crate::proofs::Laws::sought_not))]
+fn seek(feed: &[u8], message: usize) -> Result<Found, Reason>
+    ensures found { IfOk result (Sought feed.now message) }
+    ensures missing { IfErr result (Unfound feed.now message) }
+{
+    if feed.len() <= FEED_LIMIT {
+        return find_message(feed, message).ok_or(Reason::NoMessage);
+    }
+    Err(Reason::FeedLong)
+}
+
+// A message of a feed found and walked along to its end, or to the first line that offends.
+pub fn walk(feed: &[u8], message: usize) -> Result<Stop, Reason>
+    ensures { result ≡ walk_of feed.now message }
+{
+    let found = seek(feed, message)?;
+    Ok(walk_from(feed, found))
 }
 
 // A message of a feed found and judged, so that a walk that comes behind need not find it again.
-pub fn sight(feed: &[u8], message: usize) -> Sighted
+pub fn sight(feed: &[u8], message: usize) -> Result<Sighted, Refusal>
     ensures answer { result ≡ sighted_of feed.now message }
     ensures judged { SightedIs result message feed.now }
 {
-    if FEED_LIMIT < feed.len() {
-        return Sighted::Wrong(Reason::FeedLong, 0);
-    }
-    match find_message(feed, message) {
-        Found::Place(at, form) => match judge_from(feed, at, form) {
-            Judged::Accepted(rows) => Sighted::Right(at, form, rows),
-            Judged::Refused(reason, line) => Sighted::Wrong(reason, line),
-        },
-        Found::Missing => Sighted::Wrong(Reason::NoMessage, 0),
-    }
+    let found = seek(feed, message)?;
+    let rows = walk_from(feed, found).judged()?;
+    Ok(Sighted { found, rows })
 }
 
-// A message of a feed, judged.
-pub fn judge(feed: &[u8], message: usize) -> Judged
+// A message of a feed, judged: its row count, or why it is refused.
+pub fn judge(feed: &[u8], message: usize) -> Result<u32, Refusal>
     ensures { result ≡ judge_of feed.now message }
 {
-    match sight(feed, message) {
-        Sighted::Right(_, _, rows) => Judged::Accepted(rows),
-        Sighted::Wrong(reason, line) => Judged::Refused(reason, line),
-    }
+    Ok(sight(feed, message)?.rows)
 }

@@ -1,18 +1,62 @@
 -- The table of keywords by their length: an arm of a match for each length that a keyword has, and one for the rest.
 -- Assumes nothing.
-use mathlib.Core.Path.{◌≡◌, refl, ◌∙◌}
-use mathlib.Core.List.{List, [], ◌∷◌}
-use mathlib.Core.Bool.{Bool, true, false, ◌&&◌, ◌||◌, false≢true}
-use Prim.Native.Nat.{ℕ, ◌<◌}
-use native.Mathlib.Omega.{arith}
-use lib.Dec.{eqb}
-use lib.ListN.{length}
+use Rattle.std.proofs.Common.{◌≡◌, refl, sym, ap, ◌∙◌, List, [], ◌∷◌, Bool, true, false, ◌&&◌, ◌||◌, ℕ, suc, eqb, nat_eq, length, Bor, drop, ◌<◌, ◌≤◌, ◌+◌}
+use Prim.Native.Nat.compare
+use native.Mathlib.Nat.{suc-ne-zero}
+use mathlib.Core.Bool.{and-false, false≢true}
+use native.Mathlib.Numerals.{add-one}
+use lib.ListN.{get_or, drop_of_length-le}
+use lib.Seq.{drop-cons}
 use borrow.Author.Tests.{eqb-true, ne_eqb}
-use Rattle.keywords.specs.Keywords.{Entry, keywords, sized, flat}
+use Rattle.std.specs.Cmp.Lexicographic.{pointwise}
+use Rattle.std.specs.Prelude.{Some, None}
+use Rattle.words.specs.Words.{agrees, is_word}
+use Rattle.keywords.specs.Keywords.{Entry, keywords, code_in, sized, entries}
 
--- an arm: a text of its length is asked about among the keywords of that length, which the checker computes
-pub of_length : {m : ℕ} (n : ℕ) → (m ≡ n) × (0 < n) → (0 < m) × (flat (sized n keywords) ≡ flat (sized m keywords))
-of_length n h = (omega arith, rw h.0)
+-- a text is a word where `==` of slices says so
+same : (w s : List ℕ) → pointwise nat_eq s w ≡ is_word w s
+unfolding is_word agrees
+same [] [] = refl
+same [] (b ∷ s) = rw (ne_eqb (suc (length s)) 0 (suc-ne-zero _))
+same (c ∷ w) [] = rw (ne_eqb 0 (suc (length w)) (λ e. suc-ne-zero _ (sym e)))
+same (c ∷ w) (b ∷ s) = go (eqb b c) (same w s)
+  where
+    go : (t : Bool) → pointwise nat_eq s w ≡ is_word w s → t && pointwise nat_eq s w ≡ eqb (suc (length s)) (suc (length w)) && (t && agrees (λ x y. eqb y x) w s)
+    go true e = rw (compare.suc-suc) e
+    go false e = sym (and-false _)
+
+-- only keywords of the text's length can be the text
+pub alike : (ks : List Entry) (s : List ℕ) → code_in (sized (length s) ks) s ≡ code_in ks s
+unfolding code_in sized is_word
+alike [] s = refl
+alike (k ∷ ks) s = go (eqb (length s) (length k.word)) refl (alike ks s)
+  where
+    go : (t : Bool) → eqb (length s) (length k.word) ≡ t → code_in (sized (length s) ks) s ≡ code_in ks s
+        → code_in (elim t [ true ↦ k ∷ sized (length s) ks | false ↦ sized (length s) ks ]) s ≡ code_in (k ∷ ks) s
+    go true p e = ap (λ n. elim (is_word k.word s) [ true ↦ Some k.code | false ↦ n ]) e
+    go false p e = e ∙ rw (p, is_word, code_in)
+
+-- ---- the walk along the keywords of the text's length: the text's code is its code among those from a place on
+
+module _ (g : List (ℕ × Bor (List ℕ))) (s : List ℕ) where
+  pub walk_start : entries g ≡ sized (length s) keywords → code_in (entries g) s ≡ code_in keywords s
+  walk_start e = rw e (alike keywords s)
+
+  module _ (i : ℕ) (w : code_in (entries (drop i g)) s ≡ code_in keywords s) where
+    pub walk_end : length g ≤ i → None ≡ code_in keywords s
+    unfolding code_in entries
+    walk_end h = rw (drop_of_length-le g h) at w
+
+    module _ (d : ℕ × Bor (List ℕ)) (h : i < length g) where
+      turn : code_in (entries (drop i g)) s ≡ elim (pointwise nat_eq s (get_or g i d).1.now) [ true ↦ Some (get_or g i d).0 | false ↦ code_in (entries (drop (suc i) g)) s ]
+      unfolding code_in entries
+      turn = rw (same (get_or g i d).1.now s, drop-cons g i d h)
+
+      pub walk_hit : pointwise nat_eq s (get_or g i d).1.now ≡ true → Some (get_or g i d).0 ≡ code_in keywords s
+      walk_hit p = sym (rw p at turn) ∙ w
+
+      pub walk_more : pointwise nat_eq s (get_or g i d).1.now ≡ false → code_in (entries (drop (i + 1) g)) s ≡ code_in keywords s
+      walk_more p = rw (add-one i) (sym (rw p at turn) ∙ w)
 
 -- none of the arms' lengths, as the match leaves it: the last arm outermost
 abbrev pub NoneOf : List ℕ → ℕ → Type 0
@@ -38,12 +82,15 @@ far (m ∷ ls) l n h e = go (eqb l m) refl e (far ls l n h.0)
     go false p q r = r q
 
 -- so at any other length there is no keyword
-pub absent : (ls : List ℕ) (ks : List Entry) (n : ℕ) → NoneOf ls n → cover ls ks ≡ true → [] ≡ flat (sized n ks)
-unfolding cover flat sized
+absent : (ls : List ℕ) (ks : List Entry) (n : ℕ) → NoneOf ls n → cover ls ks ≡ true → sized n ks ≡ []
+unfolding cover sized
 absent ls [] n h e = refl
 absent ls (k ∷ ks) n h e = go (among ls (length k.word)) refl e (absent ls ks n h)
   where
-    go : (t : Bool) → among ls (length k.word) ≡ t → t && cover ls ks ≡ true → (cover ls ks ≡ true → [] ≡ flat (sized n ks))
-        → [] ≡ flat (sized n (k ∷ ks))
+    go : (t : Bool) → among ls (length k.word) ≡ t → t && cover ls ks ≡ true → (cover ls ks ≡ true → sized n ks ≡ []) → sized n (k ∷ ks) ≡ []
     go true p q r = rw (far ls (length k.word) n h p, sized) (r q)
     go false p q r = absurd (false≢true q)
+
+pub no_length : (ls : List ℕ) (ks : List Entry) (s : List ℕ) → NoneOf ls (length s) → cover ls ks ≡ true → None ≡ code_in ks s
+unfolding code_in
+no_length ls ks s h e = rw (← alike ks s, absent ls ks (length s) h e)

@@ -1,6 +1,7 @@
 -- The keywords that stand in assignments, with their codes, by document 01, "Keyword codes and order".
 -- Assumes nothing.
-use Rattle.std.specs.Prelude.{ℕ, List, [], ◌∷◌, ◌++◌, true, false, eqb, length}
+use Rattle.std.specs.Prelude.{ℕ, List, [], ◌∷◌, Option, Some, None, true, false, eqb, length}
+use denote.Ref.{Bor}
 use Rattle.words.specs.Words.{bytes, is_word}
 
 -- a keyword and its code
@@ -58,17 +59,17 @@ keywords =
     ∷ is 43 (bytes "INTERPOLATION_DEGREE")
     ∷ []
 
--- the code of the first of some keywords that the text is; 0 where it is none of them
-unfoldable pub code_in : List Entry → List ℕ → ℕ
-code_in [] s = 0
-code_in (k ∷ ks) s = elim (is_word k.word s) [ true ↦ k.code | false ↦ code_in ks s ]
+-- the code of the first of some keywords that the text is, where it is one of them
+unfoldable pub code_in : List Entry → List ℕ → Option ℕ
+code_in [] s = None
+code_in (k ∷ ks) s = elim (is_word k.word s) [ true ↦ Some k.code | false ↦ code_in ks s ]
 
 -- the keywords of one length, in their order
 unfoldable pub sized : ℕ → List Entry → List Entry
 sized n [] = []
 sized n (k ∷ ks) = elim (eqb n (length k.word)) [ true ↦ k ∷ sized n ks | false ↦ sized n ks ]
 
--- some keywords as the code's table holds them: the code, the word
-unfoldable pub flat : List Entry → List ℕ
-flat [] = []
-flat (k ∷ ks) = k.code ∷ k.word ++ flat ks
+-- some keywords as the code's table holds them: each beside its code
+unfoldable pub entries : List (ℕ × Bor (List ℕ)) → List Entry
+entries [] = []
+entries (k ∷ ks) = is k.0 k.1.now ∷ entries ks

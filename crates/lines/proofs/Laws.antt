@@ -1,79 +1,54 @@
 -- Laws of the definitions on texts, one a case.
 -- Assumes nothing.
 use mathlib.Core.Path.{◌≡◌, refl, sym, ap, ap₂, ◌∙◌}
-use mathlib.Core.List.{List, [], ◌∷◌, ◌++◌}
-use mathlib.Core.Bool.{Bool, true, false, not, ◌&&◌, ◌||◌, true≢false}
-use Prim.Native.Nat.{ℕ, zero, suc, ◌+◌, ◌-◌, ◌≤◌, ◌<◌}
-use native.Mathlib.Nat.{not-suc-le-zero}
+use mathlib.Core.List.{List, [], ◌∷◌}
+use mathlib.Core.Bool.{Bool, true, false, not, ◌&&◌, ◌||◌, and-false, true≢false}
+use Prim.Native.Nat.{ℕ, suc, ◌+◌, ◌-◌, ◌≤◌, ◌<◌}
 use native.Mathlib.Numerals.{add-one}
 use native.Mathlib.Omega.{arith}
 use lib.Dec.{eqb}
-use lib.ListN.{length, get_or, set, take, drop, length-take, length-drop, drop_of_length-le}
-use lib.Seq.{drop-cons, drop-drop, take-suc}
-use borrow.Author.Tests.{eq-eqb, ne_eqb, lt-ltb, le-ltb}
+use lib.ListN.{length, set, take, drop, length-take, length-drop, drop_of_length-le}
+use lib.Seq.{drop-drop}
+use borrow.Author.Tests.{eqb-true, eq-eqb, ne_eqb, lt-ltb, le-ltb}
+use Rattle.std.specs.Prelude.{cond, reverse}
+use Rattle.std.specs.List.{prefix_len}
+use Rattle.std.proofs.lemmas.List.{reverse-append, length-reverse}
+use Rattle.std.proofs.lemmas.List.Folds.{prefix_len-append}
 use Rattle.words.specs.Words.{bytes, agrees, begins, run, first_at}
 use Rattle.words.proofs.Laws.{run-le, part_from}
 use Rattle.lines.specs.Feed.{is_end, joins, text_len, end_with, end_len, line_len, ends_of}
 use Rattle.lines.specs.Text.{is_blank, blanks, cut_end, trim_of, moved, heading_of, heads, comment_of, word_ends, fields_from, field_then, field_more, gathered}
 use Rattle.lines.specs.declared.Ends.{Ends}
-use Rattle.lines.specs.declared.Heading.TheVariants.{Nothing}
-use Rattle.lines.specs.declared.Comment.TheVariants.{Value, Other}
 use Rattle.lines.specs.declared.Span.{Span}
 use Rattle.lines.specs.declared.Fields.{Fields}
-
--- ---- the ending at a place
-
-module _ (s : List ℕ) (i : ℕ) where
-  pub end_none : length s ≤ i → end_len (drop i s) ≡ 0
-  unfolding end_len
-  end_none h = rw (drop_of_length-le s h)
-
-  pub end_alone : i < length s → length s ≤ i + 1 → end_len (drop i s) ≡ end_with (get_or s i 0) 0
-  unfolding end_len
-  end_alone h k = rw (drop-cons s i 0 h) (rw (drop_of_length-le s {i = suc i} (omega arith)))
-
-  pub end_pair : i + 1 < length s → end_len (drop i s) ≡ end_with (get_or s i 0) (get_or s (i + 1) 0)
-  unfolding end_len
-  end_pair h = rw (add-one i) (rw (drop-cons s i 0 (omega arith)) (rw (drop-cons s (suc i) 0 (omega arith))))
-
-  pub word_ends_end : length s ≤ i → word_ends (drop i s) ≡ true
-  unfolding word_ends
-  word_ends_end h = rw (drop_of_length-le s h)
-
-  pub word_ends_at : i < length s → word_ends (drop i s) ≡ is_blank (get_or s i 0)
-  unfolding word_ends
-  word_ends_at h = rw (drop-cons s i 0 h)
+use Rattle.std.specs.Prelude.{Some, None}
 
 -- ---- blanks cut at the end, seen from the end
 
-cut_snoc_blank : (s : List ℕ) (b : ℕ) → b ≡ 32 → cut_end (s ++ (b ∷ [])) ≡ cut_end s
+-- the blanks at the end, counted from there, are what is cut
+pub cut-is : (s : List ℕ) → cut_end s + prefix_len (λ b. is_blank b) (reverse s) ≡ length s
 unfolding cut_end
-cut_snoc_blank [] b e = rw (eq-eqb b 32 e, cut_end)
-cut_snoc_blank (a ∷ s) b e = ap (λ (n : ℕ). elim (eqb n 0 && is_blank a) [ true ↦ 0 | false ↦ n + 1 ]) (cut_snoc_blank s b e)
+cut-is [] = omega arith
+cut-is (b ∷ s) =
+    let p : ℕ → Bool = λ x. is_blank x in
+    let n = prefix_len p (reverse s) in
+    let l : length (reverse s) ≡ length s = length-reverse s in
+    let e : prefix_len p (reverse (b ∷ s)) ≡ cond (eqb n (length (reverse s))) (length (reverse s) + cond (p b) 1 0) n
+    = ap (prefix_len p) (reverse-append (b ∷ []) s) ∙ prefix_len-append p (reverse s) (b ∷ []) in
+    rw e (go (eqb n (length (reverse s))) refl (is_blank b) (cut-is s))
+  where
+    all : ℕ
+    all = prefix_len (λ x. is_blank x) (reverse s)
 
-cut_snoc : (s : List ℕ) (b : ℕ) → (b ≡ 32 → ⊥) → cut_end (s ++ (b ∷ [])) ≡ length s + 1
-unfolding cut_end
-cut_snoc [] b e = rw (ne_eqb b 32 e, cut_end)
-cut_snoc (a ∷ s) b e =
-    ap (λ (n : ℕ). elim (eqb n 0 && is_blank a) [ true ↦ 0 | false ↦ n + 1 ]) (cut_snoc s b e)
-    ∙ rw (ne_eqb (length s + 1) 0 (λ q. omega arith)) (omega arith)
-
-module _ (s : List ℕ) (i : ℕ) (h : i ≤ length s) (k : 0 < i) where
-  last : take i s ≡ take (i - 1) s ++ (get_or s (i - 1) 0 ∷ [])
-  last =
-      let e : i ≡ suc (i - 1) = omega arith in
-      ap (λ (n : ℕ). take n s) e ∙ take-suc s (i - 1) 0 (omega arith)
-
-  pub cut_blank : get_or s (i - 1) 0 ≡ 32 → cut_end (take i s) ≡ cut_end (take (i - 1) s)
-  cut_blank e = ap cut_end last ∙ cut_snoc_blank _ _ e
-
-  pub cut_stop : (get_or s (i - 1) 0 ≡ 32 → ⊥) → cut_end (take i s) ≡ i
-  cut_stop e = ap cut_end last ∙ cut_snoc (take (i - 1) s) _ e ∙ simp length-take (omega arith)
-
-pub cut_start : (s : List ℕ) (i : ℕ) → i ≤ 0 → cut_end (take i s) ≡ i
-unfolding cut_end
-cut_start s zero h = refl
-cut_start s (suc i) h = absurd (not-suc-le-zero h)
+    go : (t : Bool) → eqb all (length (reverse s)) ≡ t → (u : Bool) → cut_end s + all ≡ length s
+        → elim (eqb (cut_end s) 0 && u) [ true ↦ 0 | false ↦ cut_end s + 1 ] + cond t (length (reverse s) + cond u 1 0) all ≡ suc (length s)
+    go true q true h =
+        let z : cut_end s ≡ 0 = omega (arith, eqb-true all (length (reverse s)) q, length-reverse s) in
+        rw (eq-eqb (cut_end s) 0 z) (omega (arith, length-reverse s))
+    go true q false h = rw (and-false (eqb (cut_end s) 0)) (omega (arith, eqb-true all (length (reverse s)) q, length-reverse s))
+    go false q u h =
+        let z : cut_end s ≡ 0 → ⊥ = λ k. true≢false (sym (eq-eqb all (length (reverse s)) (omega (arith, length-reverse s))) ∙ q) in
+        rw (ne_eqb (cut_end s) 0 z) (omega arith)
 
 -- ---- fields, seen from a place
 
@@ -215,7 +190,7 @@ begins_first b w (a ∷ s) e = go (eqb a b) e
     go false q = refl
 
 module _ (s : List ℕ) (at : ℕ) (p : at ≡ 0 + blanks s) where
-  pub no_heading : begins (bytes "C") (drop at s) ≡ false → heading_of s ≡ Nothing
+  pub no_heading : begins (bytes "C") (drop at s) ≡ false → heading_of s ≡ None
   unfolding bytes heading_of
   no_heading e =
       let o : heads (bytes "CCSDS_OPM_VERS") s ≡ false = heads_no _ s at p (begins_first _ _ _ e) in
@@ -225,16 +200,16 @@ module _ (s : List ℕ) (at : ℕ) (p : at ≡ 0 + blanks s) where
   here : blanks s ≡ at
   here = omega arith
 
-  pub comment_other : begins (bytes "COMMENT") (drop at s) ≡ false → comment_of s ≡ Other
+  pub comment_other : begins (bytes "COMMENT") (drop at s) ≡ false → comment_of s ≡ None
   unfolding comment_of
   comment_other e = rw (here, comment_of) (rw e)
 
-  pub comment_longer : begins (bytes "COMMENT") (drop at s) ≡ true → word_ends (drop (at + 7) s) ≡ false → comment_of s ≡ Other
+  pub comment_longer : begins (bytes "COMMENT") (drop at s) ≡ true → word_ends (drop (at + 7) s) ≡ false → comment_of s ≡ None
   unfolding comment_of
   comment_longer e q = rw (here, comment_of) (rw (e, q))
 
   pub comment_value : begins (bytes "COMMENT") (drop at s) ≡ true → word_ends (drop (at + 7) s) ≡ true
-      → comment_of s ≡ Value (moved (at + 7) (trim_of (drop (at + 7) s)))
+      → comment_of s ≡ Some (moved (at + 7) (trim_of (drop (at + 7) s)))
   unfolding comment_of
   comment_value e q = rw (here, comment_of) (rw (e, q) (rw here))
 

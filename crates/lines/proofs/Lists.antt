@@ -10,7 +10,7 @@ use native.Mathlib.Nat.{not-suc-le-zero}
 use native.Mathlib.Numerals.{add-one}
 use native.Mathlib.Omega.{arith}
 use lib.Dec.{eqb}
-use lib.ListN.{length, take, drop, length-append, length-drop}
+use lib.ListN.{length, take, drop, length-append, length-drop, drop_of_length-le}
 use lib.Seq.{drop-drop}
 use borrow.Author.Tests.{lt-ltb, le-ltb}
 use Rattle.words.specs.Words.{run}
@@ -127,6 +127,24 @@ lines_next at s h = first_line s at [] (omega arith) ∙ ap (λ (n : ℕ). line 
 pub lines_end : (at : ℕ) → lines_at at [] ≡ []
 unfolding lines_from last_line
 lines_end at = refl
+
+-- past the feed's end there are none
+pub none_left : (f : List ℕ) (at : ℕ) → length f ≤ at → lines_at at (drop at f) ≡ []
+none_left f at h = rw (drop_of_length-le f h) (lines_end at)
+
+-- a line's text as the code slices it
+pub text_left : (at : ℕ) (s : List ℕ) (e : Ends) → e ≡ ends_of at s → take (e.end - at) s ≡ take (text_len s) s
+unfolding ends_of
+text_left at s e q =
+    let d : at + text_len s - at ≡ text_len s = omega arith in
+    rw (q, d)
+
+pub line_left : (f : List ℕ) (at : ℕ) (e : Ends) → at < length f → e ≡ ends_of at (drop at f)
+    → lines_at at (drop at f) ≡ line at (take (e.end - at) (drop at f)) ∷ lines_at e.next (drop e.next f)
+unfolding ends_of
+line_left f at e h q =
+    let s = drop at f in
+    lines_next at s (omega (arith, length-drop at f)) ∙ rw (text_left at s e q, q, drop-drop (line_len s) at f)
 
 -- a line takes at least a byte
 pub len_some : (s : List ℕ) → 0 < length s → 0 < line_len s
@@ -264,3 +282,46 @@ placed f from e h q =
     let m = length-drop (text_len s) s in
     let k : 0 < line_len s = len_some s (omega arith) in
     rw q (record { start = omega arith; end = omega arith; on = omega arith; ends = omega arith; next = omega arith })
+
+-- at the feed's end too, where no line stands, the text of a line ends in the feed
+pub line_within : (f : List ℕ) (at : ℕ) (e : Ends) → at ≤ length f → e ≡ ends_of at (drop at f) → (at ≤ e.end) × (e.end ≤ length f)
+unfolding ends_of
+line_within f at e h q = rw q (omega arith, omega (arith, run-le (λ b. not (is_end b)) (drop at f), length-drop at f))
+
+-- ---- an induction over a feed's lines
+
+-- the line that stands first
+abbrev pub line_first : ℕ → List ℕ → Line
+line_first at s = record { start = at; text = take (text_len s) s }
+
+-- a line takes no more than there is
+pub len_le : (s : List ℕ) → 0 < length s → line_len s ≤ length s
+unfolding ends_of
+len_le s h = omega (arith, (placed s 0 (ends_of 0 s) h refl).next)
+
+-- what holds of no lines at a feed's end, and of the lines from one on where it holds of those past it, holds of all
+module _ (f : List ℕ) (P : ℕ → List Line → Type 0) (none : P (length f) [])
+    (more : (at : ℕ) (s : List ℕ) (ls : List Line) → s ≡ drop at f → 0 < length s → P (at + line_len s) ls → P at (line_first at s ∷ ls)) where
+  none_there : (at : ℕ) → at ≤ length f → [] ≡ drop at f → P at (lines_at at [])
+  none_there at k e =
+      let z : at ≡ length f = omega (arith, ap length e, length-drop at f) in
+      rw (lines_end at, z) none
+
+  pub by_lines_to : (n at : ℕ) (s : List ℕ) → length s ≤ n → at ≤ length f → s ≡ drop at f → P at (lines_at at s)
+  by_lines_to zero at [] h k e = none_there at k e
+  by_lines_to (suc n) at [] h k e = none_there at k e
+  by_lines_to zero at (b ∷ s) h k e = absurd (not-suc-le-zero h)
+  by_lines_to (suc n) at (b ∷ s) h k e =
+      let w = b ∷ s in
+      let i = by_lines_to n (at + line_len w) (drop (line_len w) w) (omega (arith, len_some w (omega arith), length-drop (line_len w) w))
+      (omega (arith, len_le w (omega arith), ap length e, length-drop at f)) (ap (drop (line_len w)) e ∙ drop-drop (line_len w) at f) in
+      rw (lines_next at w (omega arith)) (more at w _ e (omega arith) i)
+
+  pub by_lines : P 0 (lines f)
+  by_lines = by_lines_to (length f) 0 f (omega arith) (omega arith) refl
+
+-- a feed has no more lines than bytes
+pub lines_few : (f : List ℕ) → length (lines f) ≤ length f
+lines_few f =
+    let few = by_lines f (λ at ls. at + length ls ≤ length f) (omega arith) (λ at s ls e h i. let some = len_some s h in omega (arith, some, i)) in
+    omega (arith, few)

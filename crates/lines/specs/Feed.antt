@@ -4,6 +4,8 @@ use Rattle.std.specs.Prelude.{ℕ, ◌+◌, Bool, true, false, not, ◌&&◌, �
 use mathlib.Core.List.{List, [], ◌∷◌, ◌++◌, map, Memᴰ}
 use Rattle.words.specs.Words.{run}
 use Rattle.lines.specs.declared.Ends.{Ends}
+use Rattle.lines.specs.declared.FeedLine.{FeedLine}
+use Rattle.lines.specs.declared.Lines.{Lines}
 
 -- a line: where its text starts in the feed, and its text, the ending left out
 pub record Line : Type 0 where
@@ -79,3 +81,13 @@ lines_before q (l ∷ ls) = elim (ltb l.start q) [ true ↦ l ∷ lines_before q
 -- a line that stands d bytes further on
 abbrev pub moved_line : ℕ → Line → Line
 moved_line d l = record { start = d + l.start; text = l.text }
+
+-- ---- the lines as a feed gives them one after the other
+
+-- a line that was given
+abbrev pub line_of : FeedLine → Line
+line_of x = record { start = x.at; text = x.text.now }
+
+-- the lines still to come
+abbrev pub lines_left : Lines → List Line
+lines_left x = lines_at x.at (drop x.at x.feed.now)

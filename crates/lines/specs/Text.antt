@@ -1,16 +1,12 @@
 -- What a line's text can be, by document 01, "Feeds, lines and headings" and "What a line can be".
 -- Assumes nothing.
-use Rattle.std.specs.Prelude.{ℕ, ◌+◌, List, [], ◌∷◌, Bool, true, false, not, ◌&&◌, ◌||◌, eqb, ltb, length, take, drop, set}
+use Rattle.std.specs.Prelude.{ℕ, ◌+◌, List, [], ◌∷◌, Option, Some, None, Bool, true, false, not, ◌&&◌, ◌||◌, eqb, ltb, length, take, drop, set}
 use Rattle.words.specs.Words.{bytes, begins, run, first_at}
 use Rattle.lines.specs.declared.Span.{Span}
 use Rattle.lines.specs.declared.Sides.{Sides}
 use Rattle.lines.specs.declared.Fields.{Fields}
-use Rattle.lines.specs.declared.Heading.{Heading}
-use Rattle.lines.specs.declared.Heading.TheVariants.{Opm, Oem, Nothing}
-use Rattle.lines.specs.declared.Comment.{Comment}
-use Rattle.lines.specs.declared.Comment.TheVariants.{Value, Other}
-use Rattle.lines.specs.declared.Assignment.{Assignment}
-use Rattle.lines.specs.declared.Assignment.TheVariants as Assigns
+use Rattle.lines.specs.declared.Form.{Form}
+use Rattle.lines.specs.declared.Form.TheVariants.{Opm, Oem}
 
 -- "Blank means byte 32."
 abbrev pub is_blank : ℕ → Bool
@@ -57,11 +53,12 @@ heads w s =
     let u = drop (length w) t in
     begins w t && begins (bytes "=") (drop (blanks u) u)
 
-unfoldable pub heading_of : List ℕ → Heading
+-- the message type that a heading line opens
+unfoldable pub heading_of : List ℕ → Option Form
 heading_of s =
     elim (heads (bytes "CCSDS_OPM_VERS") s) [
-      | true ↦ Opm
-      | false ↦ elim (heads (bytes "CCSDS_OEM_VERS") s) [ true ↦ Oem | false ↦ Nothing ]
+      | true ↦ Some Opm
+      | false ↦ elim (heads (bytes "CCSDS_OEM_VERS") s) [ true ↦ Some Oem | false ↦ None ]
     ]
 
 -- the end of the text or a blank stands first
@@ -71,12 +68,12 @@ word_ends (b ∷ s) = is_blank b
 
 -- "First word `COMMENT`, followed by a blank or the end of text: a comment, whatever follows, `=` included. Its value is the rest
 -- with blanks cut at both ends, possibly empty."
-unfoldable pub comment_of : List ℕ → Comment
+unfoldable pub comment_of : List ℕ → Option Span
 comment_of s =
     let n = blanks s + 7 in
     elim (begins (bytes "COMMENT") (drop (blanks s) s) && word_ends (drop n s)) [
-      | true ↦ Value (moved n (trim_of (drop n s)))
-      | false ↦ Other
+      | true ↦ Some (moved n (trim_of (drop n s)))
+      | false ↦ None
     ]
 
 -- "Keyword is the text before the first `=`, value field the text after it, both trimmed." n is the place of the `=`.
@@ -84,8 +81,8 @@ unfoldable pub sides_of : ℕ → List ℕ → Sides
 sides_of n s = record { keyword = trim_of (take n s); value = moved (n + 1) (trim_of (drop (n + 1) s)) }
 
 -- "Contains `=`: an assignment."
-unfoldable pub assignment_of : List ℕ → Assignment
-assignment_of s = elim (ltb (equals_at s) (length s)) [ true ↦ Assigns.Parted (sides_of (equals_at s) s) | false ↦ Assigns.Other ]
+unfoldable pub assignment_of : List ℕ → Option Sides
+assignment_of s = elim (ltb (equals_at s) (length s)) [ true ↦ Some (sides_of (equals_at s) s) | false ↦ None ]
 
 -- the field in hand, if there is one, then those after it
 unfoldable pub field_then : ℕ → ℕ → List Span → List Span

@@ -2,25 +2,11 @@
 -- desk's, and every other field is 0.
 -- Assumes nothing.
 use Rattle.reasons.specs.Reasons.{reason_no}
-use Rattle.judge.specs.declared.Judged.{Judged}
-use Rattle.judge.specs.declared.Judged.TheVariants.{Accepted, Refused}
-use Rattle.judge.specs.declared.Counted.{Counted}
-use Rattle.judge.specs.declared.Counted.TheVariants.{Headings, Barred}
-use Rattle.std.specs.Prelude.{ℕ, pos}
+use Rattle.std.specs.Prelude.{ℕ, pos, Result, Ok, Err, ⊤, ℤ}
 use Rattle.desk.specs.declared.Desk.{Desk}
 use Rattle.desk.specs.declared.Ticket.{Ticket}
 use Rattle.desk.specs.declared.Placed.{Placed}
-use Rattle.tables.specs.declared.Heard.{Heard}
-use Rattle.tables.specs.declared.Heard.TheVariants.{Spoken, Silent}
-use Rattle.tables.specs.declared.Resized.{Resized}
-use Rattle.tables.specs.declared.Resized.TheVariants as Sizing
-use Rattle.write.specs.declared.Written.{Written}
-use Rattle.write.specs.declared.Written.TheVariants as Writing
 use Rattle.explain.specs.declared.Explained.{Explained}
-use Rattle.rounding.specs.declared.Said.{Said}
-use Rattle.rounding.specs.declared.Said.TheVariants as Saying
-use Rattle.spoken.specs.declared.Spoken.{Spoken as InWords}
-use Rattle.spoken.specs.declared.Spoken.TheVariants as Speaking
 use Rattle.odm.specs.declared.OdmCounted.{OdmCounted}
 use Rattle.odm.specs.declared.OdmPlaced.{OdmPlaced}
 use Rattle.odm.specs.declared.OdmRow.{OdmRow}
@@ -29,14 +15,17 @@ use Rattle.odm.specs.declared.OdmWritten.{OdmWritten}
 use Rattle.odm.specs.declared.OdmRounded.{OdmRounded}
 use Rattle.odm.specs.declared.OdmSpoken.{OdmSpoken}
 use Rattle.odm.specs.declared.OdmExplained.{OdmExplained}
+use Rattle.reasons.specs.declared.Reason.{Reason}
+use Rattle.judge.specs.declared.Refusal.{Refusal}
+use Rattle.judge.specs.declared.Row.{Row}
 
-abbrev pub counted_nos : Counted → OdmCounted
-counted_nos (Headings n) = record { reason = 0; count = n }
-counted_nos (Barred r) = record { reason = reason_no r; count = 0 }
+abbrev pub counted_nos : Result ℕ Reason → OdmCounted
+counted_nos (Ok n) = record { reason = 0; count = n }
+counted_nos (Err r) = record { reason = reason_no r; count = 0 }
 
-abbrev pub judged_nos : Judged → OdmJudged
-judged_nos (Accepted n) = record { reason = 0; line = 0; rows = n }
-judged_nos (Refused r l) = record { reason = reason_no r; line = l; rows = 0 }
+abbrev pub judged_nos : Result ℕ Refusal → OdmJudged
+judged_nos (Ok n) = record { reason = 0; line = 0; rows = n }
+judged_nos (Err e) = record { reason = reason_no e.reason; line = e.line; rows = 0 }
 
 -- "a desk as load number and count"
 abbrev pub desk_nos : ℕ → ℕ → Desk
@@ -52,26 +41,26 @@ placed_nos x =
     let a = judged_nos x.answer in
     record { load = x.desk.load.0; count = x.desk.count; reason = a.reason; line = a.line }
 
-abbrev pub row_nos : Heard → OdmRow
-row_nos (Spoken r) = record { reason = 0; code = r.code; group = r.group; line = r.line; start = r.start; length = r.length }
-row_nos (Silent r) = record { reason = reason_no r; code = 0; group = 0; line = 0; start = 0; length = 0 }
+abbrev pub row_nos : Result Row Reason → OdmRow
+row_nos (Ok r) = record { reason = 0; code = r.code; group = r.group; line = r.line; start = r.start; length = r.length }
+row_nos (Err r) = record { reason = reason_no r; code = 0; group = 0; line = 0; start = 0; length = 0 }
 
-abbrev pub written_nos : Written → OdmWritten
-written_nos (Writing.Whole n) = record { reason = 0; line = 0; length = n }
-written_nos (Writing.Refused r l) = record { reason = reason_no r; line = l; length = 0 }
+abbrev pub written_nos : Result ℕ Refusal → OdmWritten
+written_nos (Ok n) = record { reason = 0; line = 0; length = n }
+written_nos (Err e) = record { reason = reason_no e.reason; line = e.line; length = 0 }
 
-abbrev pub rounded_nos : Said → OdmRounded
-rounded_nos (Saying.Units z) = record { reason = 0; units = z }
-rounded_nos (Saying.Refused r) = record { reason = reason_no r; units = pos 0 }
+abbrev pub rounded_nos : Result ℤ Reason → OdmRounded
+rounded_nos (Ok z) = record { reason = 0; units = z }
+rounded_nos (Err r) = record { reason = reason_no r; units = pos 0 }
 
-abbrev pub spoken_nos : InWords → OdmSpoken
-spoken_nos (Speaking.Words n) = record { reason = 0; length = n }
-spoken_nos (Speaking.Refused r) = record { reason = reason_no r; length = 0 }
+abbrev pub spoken_nos : Result ℕ Reason → OdmSpoken
+spoken_nos (Ok n) = record { reason = 0; length = n }
+spoken_nos (Err r) = record { reason = reason_no r; length = 0 }
 
 -- the reason alone
-abbrev pub resized_no : Resized → ℕ
-resized_no Sizing.Done = 0
-resized_no (Sizing.Refused r) = reason_no r
+abbrev pub resized_no : Result ⊤ Reason → ℕ
+resized_no (Ok _) = 0
+resized_no (Err r) = reason_no r
 
 -- the judgement's numbers, and beside them where and what
 abbrev pub explained_nos : Explained → OdmExplained

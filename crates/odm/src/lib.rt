@@ -12,13 +12,10 @@ ghost use Rattle.write.specs.Plain.{plain_of};
 ghost use Rattle.write.specs.Written.{written_of, buffer_after};
 ghost use Rattle.odm.specs.Face.{counted_nos, judged_nos, desk_nos, ticket_nos, placed_nos, row_nos, written_nos, rounded_nos, spoken_nos, resized_no, explained_nos};
 
-use desk::{Desk, LoadNumber, RowNumber, Ticket};
-use judge::{Counted, Judged};
-use reasons::reason_number;
-use rounding::Said;
-use spoken::Spoken;
-use tables::{Heard, Resized};
-use write::Written;
+use desk::{Desk, LoadNumber, Placed, RowNumber, Ticket};
+use explain::Explained;
+use judge::{Refusal, Row};
+use reasons::Reason;
 
 #[repr(C)]
 #[derive(Clone, Copy)]
@@ -27,12 +24,45 @@ pub struct OdmCounted {
     pub count: u32,
 }
 
+impl From<Result<u32, Reason>> for OdmCounted {
+    ghost from_gives = { λ counted numbers. numbers ≡ counted_nos counted };
+
+    fn from(counted: Result<u32, Reason>) -> OdmCounted {
+        match counted {
+            Ok(count) => OdmCounted { reason: 0, count },
+            Err(reason) => OdmCounted {
+                reason: reason.into(),
+                count: 0,
+            },
+        }
+    }
+}
+
 #[repr(C)]
 #[derive(Clone, Copy)]
 pub struct OdmJudged {
     pub reason: u32,
     pub line: u32,
     pub rows: u32,
+}
+
+impl From<Result<u32, Refusal>> for OdmJudged {
+    ghost from_gives = { λ judged numbers. numbers ≡ judged_nos judged };
+
+    fn from(judged: Result<u32, Refusal>) -> OdmJudged {
+        match judged {
+            Ok(rows) => OdmJudged {
+                reason: 0,
+                line: 0,
+                rows,
+            },
+            Err(refusal) => OdmJudged {
+                reason: refusal.reason.into(),
+                line: refusal.line,
+                rows: 0,
+            },
+        }
+    }
 }
 
 #[repr(C)]
@@ -44,8 +74,23 @@ pub struct OdmPlaced {
     pub line: u32,
 }
 
+impl From<Placed> for OdmPlaced {
+    ghost from_gives = { λ placed numbers. numbers ≡ placed_nos placed };
+
+    fn from(placed: Placed) -> OdmPlaced {
+        let next = placed.desk;
+        let answer = OdmJudged::from(placed.answer);
+        OdmPlaced {
+            load: next.load.0,
+            count: next.count,
+            reason: answer.reason,
+            line: answer.line,
+        }
+    }
+}
+
 #[repr(C)]
-#[derive(Clone, Copy)]
+#[derive(Clone, Copy, Default)]
 pub struct OdmRow {
     pub reason: u32,
     pub code: u32,
@@ -53,6 +98,27 @@ pub struct OdmRow {
     pub line: u32,
     pub start: u32,
     pub length: u32,
+}
+
+impl From<Result<Row, Reason>> for OdmRow {
+    ghost from_gives = { λ heard numbers. numbers ≡ row_nos heard };
+
+    fn from(heard: Result<Row, Reason>) -> OdmRow {
+        match heard {
+            Ok(row) => OdmRow {
+                reason: 0,
+                code: row.code,
+                group: row.group,
+                line: row.line,
+                start: row.start,
+                length: row.length,
+            },
+            Err(reason) => OdmRow {
+                reason: reason.into(),
+                ..OdmRow::default()
+            },
+        }
+    }
 }
 
 #[repr(C)]
@@ -63,6 +129,25 @@ pub struct OdmWritten {
     pub length: u32,
 }
 
+impl From<Result<u32, Refusal>> for OdmWritten {
+    ghost from_gives = { λ written numbers. numbers ≡ written_nos written };
+
+    fn from(written: Result<u32, Refusal>) -> OdmWritten {
+        match written {
+            Ok(length) => OdmWritten {
+                reason: 0,
+                line: 0,
+                length,
+            },
+            Err(refusal) => OdmWritten {
+                reason: refusal.reason.into(),
+                line: refusal.line,
+                length: 0,
+            },
+        }
+    }
+}
+
 #[repr(C)]
 #[derive(Clone, Copy)]
 pub struct OdmRounded {
@@ -70,11 +155,39 @@ pub struct OdmRounded {
     pub units: i64,
 }
 
+impl From<Result<i64, Reason>> for OdmRounded {
+    ghost from_gives = { λ rounded numbers. numbers ≡ rounded_nos rounded };
+
+    fn from(rounded: Result<i64, Reason>) -> OdmRounded {
+        match rounded {
+            Ok(units) => OdmRounded { reason: 0, units },
+            Err(reason) => OdmRounded {
+                reason: reason.into(),
+                units: 0,
+            },
+        }
+    }
+}
+
 #[repr(C)]
 #[derive(Clone, Copy)]
 pub struct OdmSpoken {
     pub reason: u32,
     pub length: u32,
+}
+
+impl From<Result<u32, Reason>> for OdmSpoken {
+    ghost from_gives = { λ spoken numbers. numbers ≡ spoken_nos spoken };
+
+    fn from(spoken: Result<u32, Reason>) -> OdmSpoken {
+        match spoken {
+            Ok(length) => OdmSpoken { reason: 0, length },
+            Err(reason) => OdmSpoken {
+                reason: reason.into(),
+                length: 0,
+            },
+        }
+    }
 }
 
 #[repr(C)]
@@ -89,36 +202,50 @@ pub struct OdmExplained {
     pub codes: [u32; 4],
 }
 
+impl From<Explained> for OdmExplained {
+    ghost from_gives = { λ explained numbers. numbers ≡ explained_nos explained };
+
+    fn from(explained: Explained) -> OdmExplained {
+        let answer = OdmJudged::from(explained.judged);
+        let listed = explained.listed;
+        let codes = listed.codes;
+        OdmExplained {
+            reason: answer.reason,
+            rows: answer.rows,
+            line: answer.line,
+            start: explained.start,
+            length: explained.length,
+            count: listed.count,
+            codes,
+        }
+    }
+}
+
+// The number of an answer about a table made at the other width; no From, since neither of its types would be of this crate.
+fn resized_number(resized: Result<(), Reason>) -> u32
+    ensures { result ≡ resized_no resized }
+{
+    match resized {
+        Ok(()) => 0,
+        Err(reason) => reason.into(),
+    }
+}
+
+fn desk_of(load: u32, count: u32) -> Desk
+    ensures { result ≡ desk_nos load count }
+{
+    Desk {
+        load: LoadNumber(load),
+        count,
+    }
+}
+
 // How many messages a feed has.
 #[unsafe(no_mangle)]
 pub extern "C" fn odm_headings(feed: &[u8]) -> OdmCounted
     ensures { result ≡ counted_nos (count_of feed.now) }
 {
-    match judge::count_headings(feed) {
-        Counted::Headings(count) => OdmCounted { reason: 0, count },
-        Counted::Barred(reason) => OdmCounted {
-            reason: reason_number(reason),
-            count: 0,
-        },
-    }
-}
-
-// The numbers of an answer.
-fn judged_numbers(judged: Judged) -> OdmJudged
-    ensures { result ≡ judged_nos judged }
-{
-    match judged {
-        Judged::Accepted(rows) => OdmJudged {
-            reason: 0,
-            line: 0,
-            rows,
-        },
-        Judged::Refused(reason, line) => OdmJudged {
-            reason: reason_number(reason),
-            line,
-            rows: 0,
-        },
-    }
+    judge::count_headings(feed).into()
 }
 
 // A message of a feed, judged.
@@ -126,7 +253,7 @@ fn judged_numbers(judged: Judged) -> OdmJudged
 pub extern "C" fn odm_judge(feed: &[u8], message: usize) -> OdmJudged
     ensures { result ≡ judged_nos (judge_of feed.now message) }
 {
-    judged_numbers(judge::judge(feed, message))
+    judge::judge(feed, message).into()
 }
 
 // A message judged and, where it is right and the table has room, its rows put into the table.
@@ -141,21 +268,7 @@ pub extern "C" fn odm_place(
     ensures answer { result ≡ placed_nos (place_of (desk_nos load count) feed.now message (length table.old)) }
     ensures table { table.new ≡ place_table (desk_nos load count) feed.now message table.old }
 {
-    let desk = Desk {
-        load: LoadNumber(load),
-        count,
-    };
-    let placed = desk.place(feed, message, table);
-    let next = placed.desk;
-    let number = next.load;
-    let judged = placed.answer;
-    let answer = judged_numbers(judged);
-    OdmPlaced {
-        load: number.0,
-        count: next.count,
-        reason: answer.reason,
-        line: answer.line,
-    }
+    desk_of(load, count).place(feed, message, table).into()
 }
 
 // What a ticket hears.
@@ -170,32 +283,11 @@ pub extern "C" fn odm_read(
 ) -> OdmRow
     ensures { result ≡ row_nos (read_of (desk_nos load count) (ticket_nos ticket_load ticket_row) feed.now table.now) }
 {
-    let desk = Desk {
-        load: LoadNumber(load),
-        count,
-    };
     let ticket = Ticket {
         load: LoadNumber(ticket_load),
         row: RowNumber(ticket_row),
     };
-    match desk.read(ticket, feed, table) {
-        Heard::Spoken(row) => OdmRow {
-            reason: 0,
-            code: row.code,
-            group: row.group,
-            line: row.line,
-            start: row.start,
-            length: row.length,
-        },
-        Heard::Silent(reason) => OdmRow {
-            reason: reason_number(reason),
-            code: 0,
-            group: 0,
-            line: 0,
-            start: 0,
-            length: 0,
-        },
-    }
+    desk_of(load, count).read(ticket, feed, table).into()
 }
 
 // A message judged and, where it is right and the buffer has room, written there in plain form.
@@ -204,18 +296,7 @@ pub extern "C" fn odm_write(feed: &[u8], message: usize, buffer: &mut [u8]) -> O
     ensures answer { result ≡ written_nos (written_of feed.now message (length buffer.old)) }
     ensures buffer { buffer.new ≡ buffer_after (written_of feed.now message (length buffer.old)) (plain_of feed.now message) buffer.old }
 {
-    match write::write(feed, message, buffer) {
-        Written::Whole(length) => OdmWritten {
-            reason: 0,
-            line: 0,
-            length,
-        },
-        Written::Refused(reason, line) => OdmWritten {
-            reason: reason_number(reason),
-            line,
-            length: 0,
-        },
-    }
+    write::write(feed, message, buffer).into()
 }
 
 // A number's text as whole units of a decimal place, rounded.
@@ -223,13 +304,7 @@ pub extern "C" fn odm_write(feed: &[u8], message: usize, buffer: &mut [u8]) -> O
 pub extern "C" fn odm_round(text: &[u8], decimals: u32) -> OdmRounded
     ensures { result ≡ rounded_nos (say_of text.now decimals) }
 {
-    match rounding::say_number(text, decimals) {
-        Said::Units(units) => OdmRounded { reason: 0, units },
-        Said::Refused(reason) => OdmRounded {
-            reason: reason_number(reason),
-            units: 0,
-        },
-    }
+    rounding::say_number(text, decimals).into()
 }
 
 // How the value of a code is said, in words.
@@ -238,23 +313,7 @@ pub extern "C" fn odm_in_words(code: u32, value: &[u8], buffer: &mut [u8]) -> Od
     ensures answer { result ≡ spoken_nos (spoken_of code value.now (length buffer.old)) }
     ensures buffer { buffer.new ≡ wordsAfter (spoken_of code value.now (length buffer.old)) (words_of code value.now) buffer.old }
 {
-    match spoken::in_words(code, value, buffer) {
-        Spoken::Words(length) => OdmSpoken { reason: 0, length },
-        Spoken::Refused(reason) => OdmSpoken {
-            reason: reason_number(reason),
-            length: 0,
-        },
-    }
-}
-
-// The number of an answer about a table made at the other width.
-fn resized_number(resized: Resized) -> u32
-    ensures { result ≡ resized_no resized }
-{
-    match resized {
-        Resized::Done => 0,
-        Resized::Refused(reason) => reason_number(reason),
-    }
+    spoken::in_words(code, value, buffer).into()
 }
 
 // A recorded table of two bytes an entry made one of four.
@@ -280,18 +339,5 @@ pub extern "C" fn odm_narrow(wide: &[u8], narrow: &mut [u8]) -> u32
 pub extern "C" fn odm_explain(feed: &[u8], message: usize) -> OdmExplained
     ensures { result ≡ explained_nos (explain_of feed.now message) }
 {
-    let explained = explain::explain(feed, message);
-    let judged = explained.judged;
-    let answer = judged_numbers(judged);
-    let listed = explained.listed;
-    let codes = listed.codes;
-    OdmExplained {
-        reason: answer.reason,
-        rows: answer.rows,
-        line: answer.line,
-        start: explained.start,
-        length: explained.length,
-        count: listed.count,
-        codes,
-    }
+    explain::explain(feed, message).into()
 }

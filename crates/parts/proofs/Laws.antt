@@ -1,14 +1,13 @@
 -- Laws of the parts of a line that offend: what the walks found is what the definitions say, and each part lies in the text.
 -- Assumes nothing.
-use mathlib.Core.Path.{◌≡◌, refl, sym, ap, ◌∙◌}
+use mathlib.Core.Path.{◌≡◌, refl, ◌∙◌}
 use mathlib.Core.List.{List, [], ◌∷◌}
 use mathlib.Core.Bool.{Bool, true, false, not}
-use Prim.Native.Nat.{ℕ, suc, ◌+◌, ◌≤◌, ◌<◌}
-use native.Mathlib.Numerals.{add-one}
+use Prim.Native.Nat.{ℕ, suc, min, ◌+◌, ◌≤◌}
 use native.Mathlib.Omega.{arith}
 use lib.Dec.{eqb}
-use lib.ListN.{length, get_or, drop, length-take, length-drop, drop_of_length-le}
-use lib.Seq.{drop-cons}
+use lib.ListN.{length, get_or, take, drop, length-take}
+use Rattle.std.proofs.Math.Nat.{min_comm}
 use Rattle.words.proofs.Laws.{run-le}
 use Rattle.reasons.specs.Reasons.{reason_no}
 use Rattle.reasons.specs.declared.Reason.{Reason}
@@ -16,21 +15,26 @@ use Rattle.lines.specs.Text.{is_odd, odd_at, no_span, trim_of, moved, assignment
 use Rattle.lines.specs.declared.Span.{Span}
 use Rattle.lines.specs.declared.Sides.{Sides}
 use Rattle.lines.specs.declared.Fields.{Fields}
-use Rattle.lines.specs.declared.Assignment.{Assignment}
-use Rattle.lines.specs.declared.Assignment.TheVariants as Assigns
 use Rattle.values.specs.Number.{is_number}
 use Rattle.epochs.specs.Epoch.{epoch_of}
 use Rattle.epochs.specs.declared.Instant.{Instant}
-use Rattle.epochs.specs.declared.Epoch.{Epoch as EpochRead}
-use Rattle.epochs.specs.declared.Epoch.TheVariants.{At, Bad}
 use Rattle.grammar.specs.Rows.{between, Row, pick}
 use Rattle.grammar.specs.declared.Kind.{Kind}
-use Rattle.grammar.specs.declared.Kind.TheVariants.{Version, Text, Integer, Number, Epoch, Nothing}
-use Rattle.grammar.proofs.Laws.{First, row, picks}
+use Rattle.grammar.specs.declared.Kind.TheVariants.{Version, Text, Integer, Number, Epoch}
 use Rattle.step.specs.declared.State.{State}
+use Rattle.std.proofs.Common.{find, unwrap_or, Some, cond}
 use Rattle.step.specs.Step.{part, word_len, Inside}
-use Rattle.step.proofs.Laws.{part_length, word-le, trim_inside, sides_inside, fields_inside}
+use Rattle.step.proofs.Laws.{trim_inside, inside_part, word_within, tail_inside, tail_part, sides_inside, fields_inside}
 use Rattle.parts.specs.Parts.{past_long, first_odd, sides_in, keyword_part, value_in, kind_in, first_wrong, data_part, value_part, unit_part, offences, offending}
+use Rattle.std.specs.Prelude.{Option, Some, None}
+
+-- ---- a text's ends
+
+pub long_from : (s : List ℕ) → min (length s) 254 ≡ length (take 254 s)
+long_from s = rw (length-take 254 s) (min_comm (length s) 254)
+
+pub odd_within : (s : List ℕ) → odd_at s ≤ length s
+odd_within s = run-le (λ b. not (is_odd b)) s
 
 -- ---- parts lie in the text
 
@@ -41,59 +45,42 @@ pub sides_within : (s : List ℕ) (x : Sides) → x ≡ sides_in s → Inside x.
 unfolding sides_in
 sides_within s x e = rw e (go (assignment_of s) refl)
   where
-    go : (q : Assignment) → assignment_of s ≡ q
-        → let y : Sides = elim q [ Assigns.Parted z ↦ z | Assigns.Other ↦ record { keyword = no_span; value = no_span } ] in Inside y.keyword s × Inside y.value s
-    go (Assigns.Parted y) h = sides_inside s y h
-    go Assigns.Other h = (none_inside s, none_inside s)
+    go : (q : Option Sides) → assignment_of s ≡ q
+        → let y : Sides = elim q [ Some z ↦ z | None ↦ record { keyword = no_span; value = no_span } ] in Inside y.keyword s × Inside y.value s
+    go (Some y) h = sides_inside s y h
+    go None h = (none_inside s, none_inside s)
 
--- a number ends in its field
-pub number_within : (p : Span) (s : List ℕ) → Inside p s → p.from + word_len (part p s) ≤ p.to
-number_within p s h = omega (arith, h.order, word-le (part p s), part_length p s h)
+-- ---- what follows a number, as the walk found it: the rest r of the value, and its trimmed part u
 
--- ---- what follows a number, as the walk found it: n bytes to the first blank, the rest r, and its trimmed part u
+pub unit_found : (s t : List ℕ) (x : Sides) (r u : Span) → x ≡ sides_in s → let n = word_len (part x.value s) in
+    r ≡ record { from = x.value.from + n; to = x.value.to } → t ≡ s → u ≡ moved r.from (trim_of (part r t)) → u ≡ unit_part s
+unfolding unit_part
+unit_found s t x r u kx kr kt ku =
+    let w = (sides_within s x kx).1 in
+    let n = word_len (part x.value s) in
+    let e : part r t ≡ drop n (part x.value s) = rw (kt, kr) (tail_part x.value s w n (word_within x.value s w _ refl)) in
+    ku ∙ rw (e, kr) (rw (← kx))
 
-module _ (s : List ℕ) (x : Sides) (n : ℕ) (r : List ℕ) (u : Span) (hx : x ≡ sides_in s) (hn : n ≡ word_len (part x.value s)) (hr : r ≡ drop n (part x.value s)) (hu : u ≡ trim_of r) where
-  pub unit_found : moved (x.value.from + n) u ≡ unit_part s
-  unfolding unit_part
-  unit_found = rw (← hx, ← hn, ← hr, ← hu)
+-- ---- the first field that is no number
 
-  pub unit_within : x.value.from + n + u.to ≤ length s
-  unit_within =
-      let w = (sides_within s x hx).1 in
-      omega (arith, w.order, w.end, (trim_inside r u hu).end, ap length hr, length-drop n (part x.value s), part_length x.value s w, number_within x.value s w)
+wrong_found : (d : Span) (ps : List Span) (s : List ℕ) → unwrap_or (find (λ p. not (is_number (part p s))) ps) d ≡ first_wrong d ps s
+unfolding first_wrong
+wrong_found d [] s = refl
+wrong_found d (p ∷ ps) s = go (is_number (part p s)) (wrong_found d ps s)
+  where
+    go : (t : Bool) → unwrap_or (find (λ q. not (is_number (part q s))) ps) d ≡ first_wrong d ps s
+        → unwrap_or (cond (not t) (Some p) (find (λ q. not (is_number (part q s))) ps)) d ≡ elim t [ true ↦ first_wrong d ps s | false ↦ p ]
+    go true e = e
+    go false e = refl
 
--- ---- the first field that is no number, seen from a place in the list of fields
+-- it, in a data line whose epoch has been read
+pub data_later : (st : State) (s : List ℕ) (f : Fields) (t : Instant) (w : Option Span) → f ≡ split_of s
+    → epoch_of (part (get_or f.spans 0 no_span) s) st.utc ≡ Some t → w ≡ find (λ p. not (is_number (part p s))) (drop 1 f.spans)
+    → unwrap_or w (get_or f.spans 0 no_span) ≡ data_part st s
+unfolding data_part
+data_later st s f t w kf h kw = rw (kw, wrong_found (get_or f.spans 0 no_span) (drop 1 f.spans) s) (rw (← kf, data_part) (rw (h, data_part) (rw (← kf))))
 
-module _ (d : Span) (ps : List Span) (s : List ℕ) (i : ℕ) where
-  pub wrong_none : length ps ≤ i → first_wrong d (drop i ps) s ≡ d
-  unfolding first_wrong
-  wrong_none h = rw (drop_of_length-le ps h)
-
-  pub wrong_later : i < length ps → is_number (part (get_or ps i no_span) s) ≡ true → first_wrong d (drop i ps) s ≡ first_wrong d (drop (i + 1) ps) s
-  unfolding first_wrong
-  wrong_later h e = rw (add-one i, drop-cons ps i no_span h) (rw (e, first_wrong))
-
-  pub wrong_here : i < length ps → is_number (part (get_or ps i no_span) s) ≡ false → first_wrong d (drop i ps) s ≡ get_or ps i no_span
-  unfolding first_wrong
-  wrong_here h e = rw (drop-cons ps i no_span h) (rw (e, first_wrong))
-
--- ---- the one field of a data line, its epoch read
-
-module _ (st : State) (s : List ℕ) (f : Fields) (e : EpochRead) (hf : f ≡ split_of s) (he : e ≡ epoch_of (part (get_or f.spans 0 no_span) s) st.utc) where
-  pub data_bad : e ≡ Bad → get_or f.spans 0 no_span ≡ data_part st s
-  unfolding data_part
-  data_bad h = rw (← hf, data_part) (rw (sym he ∙ h, data_part) (rw (← hf)))
-
-  pub data_later : {t : Instant} → e ≡ At t → first_wrong (get_or f.spans 0 no_span) (drop 1 f.spans) s ≡ data_part st s
-  unfolding data_part
-  data_later h = rw (← hf, data_part) (rw (sym he ∙ h, data_part) (rw (← hf)))
-
--- ---- the part that offends, by the reason's number: the i-th row's
-
-pub offends : (st : State) (s : List ℕ) (r : Reason) (n i : ℕ) → n ≡ reason_no r → First (offences st s) i n
-    → row (offences st s) (trim_of s) i n ≡ offending st s r
-unfolding offending
-offends st s r n i e h = picks (offences st s) (trim_of s) i n h ∙ ap (pick (offences st s) (trim_of s)) e
+-- ---- the part that offends
 
 -- each of the parts lies in the text, and so does the one that offends
 module _ (s : List ℕ) where
@@ -123,14 +110,14 @@ module _ (s : List ℕ) where
   keyword_inside =
       either (eqb (sides_in s).keyword.to 0) (record { order = omega arith; end = run-le (λ b. not (eqb b 61)) s }) (sides_within s (sides_in s) refl).0
 
-  in_inside : (k : Kind) (p : Span) → Inside p s → Inside (value_in k p s) s
+  in_inside : (k : Option Kind) (p : Span) → Inside p s → Inside (value_in k p s) s
   unfolding value_in
-  in_inside Number p h = record { order = omega arith; end = omega (arith, number_within p s h, h.end) }
-  in_inside Version p h = h
-  in_inside Text p h = h
-  in_inside Integer p h = h
-  in_inside Epoch p h = h
-  in_inside Nothing p h = h
+  in_inside (Some Number) p h = record { order = omega arith; end = omega (arith, word_within p s h _ refl, h.end) }
+  in_inside (Some Version) p h = h
+  in_inside (Some Text) p h = h
+  in_inside (Some Integer) p h = h
+  in_inside (Some Epoch) p h = h
+  in_inside None p h = h
 
   wrong-inside : (d : Span) (ps : List Span) → Inside d s → ((i : ℕ) → Inside (get_or ps i no_span) s) → Inside (first_wrong d ps s) s
   unfolding first_wrong
@@ -145,24 +132,28 @@ module _ (s : List ℕ) where
   unfolding data_part
   data_inside st = go (epoch_of (part (get_or (split_of s).spans 0 no_span) s) st.utc)
     where
-      go : (e : EpochRead)
-          → let ps = (split_of s).spans in Inside (elim e [ Bad ↦ get_or ps 0 no_span | At t ↦ first_wrong (get_or ps 0 no_span) (drop 1 ps) s ]) s
-      go Bad = (fields_inside s _ refl).inside 0
-      go (At t) = let a = (fields_inside s _ refl).inside in wrong-inside _ _ (a 0) (rest_inside (split_of s).spans a)
+      go : (e : Option Instant)
+          → let ps = (split_of s).spans in Inside (elim e [ None ↦ get_or ps 0 no_span | Some t ↦ first_wrong (get_or ps 0 no_span) (drop 1 ps) s ]) s
+      go None = (fields_inside s _ refl).inside 0
+      go (Some t) = let a = (fields_inside s _ refl).inside in wrong-inside _ _ (a 0) (rest_inside (split_of s).spans a)
 
   value-inside : (st : State) → Inside (value_part st s) s
   unfolding value_part
   value-inside st = go (assignment_of s) refl
     where
-      go : (q : Assignment) → assignment_of s ≡ q
-          → Inside (elim q [ Assigns.Parted x ↦ value_in (kind_in st.form x s) x.value s | Assigns.Other ↦ data_part st s ]) s
-      go (Assigns.Parted x) e = in_inside _ _ (sides_inside s x e).1
-      go Assigns.Other e = data_inside st
+      go : (q : Option Sides) → assignment_of s ≡ q
+          → Inside (elim q [ Some x ↦ value_in (kind_in st.form x s) x.value s | None ↦ data_part st s ]) s
+      go (Some x) e = in_inside _ _ (sides_inside s x e).1
+      go None e = data_inside st
 
   unit_inside : Inside (unit_part s) s
+  unfolding unit_part
   unit_inside =
-      let x = sides_in s in
-      rw (← unit_found s x _ _ _ refl refl refl refl) (record { order = omega (arith, (trim_inside (drop (word_len (part x.value s)) (part x.value s)) _ refl).order); end = unit_within s x _ _ _ refl refl refl refl })
+      let p = (sides_in s).value in
+      let w = (sides_within s _ refl).1 in
+      let n = word_len (part p s) in
+      let i = word_within p s w n refl in
+      inside_part _ s (tail_inside p s w n refl) _ (rw (tail_part p s w n i) (trim_inside (drop n (part p s)) _ refl))
 
   pub offending-inside : (st : State) (r : Reason) → Inside (offending st s r) s
   unfolding offending

@@ -1,61 +1,56 @@
 // The bytes that offend in a line, by the reason.
 #![tactic(auto)]
 
-ghost use Rattle.std.specs.Prelude.{◌≡◌, drop, get_or};
-ghost use Rattle.lines.specs.Text.{no_span};
-ghost use Rattle.step.specs.Step.{Inside, SevenInside};
-ghost use Rattle.parts.specs.Parts.{past_long, first_odd, sides_in, keyword_part, value_in, kind_in, first_wrong, data_part, value_part, unit_part, offending};
+ghost use Rattle.std.specs.Prelude.{◌≡◌};
+ghost use Rattle.parts.specs.Parts.{past_long, first_odd, sides_in, keyword_part, value_in, data_part, value_part, unit_part, offending};
 
-use epochs::{Epoch, epoch_of};
-use grammar::{Form, Keyword, Kind};
-use lines::{Assignment, Sides, Span};
-use reasons::{Reason, reason_number};
-use step::State;
+use epochs::epoch_of;
+use grammar::Kind;
+use lines::{Form, Sides, Span};
+use reasons::Reason;
+use step::{DataLine, Part, State};
 use words::byte_at;
 
 // The text past 254 bytes.
+#[tactic(auto, using(crate::proofs::Laws::long_from))]
 fn past_long(text: &[u8]) -> Span
     ensures { result ≡ past_long text.now }
 {
     let to = text.len();
-    if to < 254 {
-        return Span { from: to, to };
+    Span {
+        from: to.min(254),
+        to,
     }
-    Span { from: 254, to }
 }
 
 // The first byte that is no plain text.
+#[tactic(auto, using(crate::proofs::Laws::odd_within))]
 fn first_odd(text: &[u8]) -> Span
     ensures { result ≡ first_odd text.now }
 {
     let from = lines::odd_at(text);
-    if from < text.len() {
-        return Span { from, to: from + 1 };
-    }
-    Span { from, to: from }
+    let to = text.len().min(from + 1);
+    Span { from, to }
 }
 
 // An assignment's sides, both empty where the line is none.
+#[tactic(auto, unfolding(crate::specs::Parts::sides_in))]
 fn sides_in(text: &[u8]) -> Sides
     ensures { result ≡ sides_in text.now }
 {
-    match lines::assignment_of(text) {
-        Assignment::Parted(x) => x,
-        Assignment::Other => Sides {
-            keyword: Span { from: 0, to: 0 },
-            value: Span { from: 0, to: 0 },
-        },
-    }
+    lines::assignment_of(text).unwrap_or(Sides {
+        keyword: Span { from: 0, to: 0 },
+        value: Span { from: 0, to: 0 },
+    })
 }
 
 // The keyword, or the place of the `=` where it is empty.
 fn keyword_part(text: &[u8]) -> Span
     ensures { result ≡ keyword_part text.now }
 {
-    let x = sides_in(text);
-    let keyword = x.keyword;
+    let keyword = sides_in(text).keyword;
     if keyword.to == 0 {
-        let n = byte_at(text, 61);
+        let n = byte_at(text, b'=');
         return Span { from: n, to: n };
     }
     keyword
@@ -63,117 +58,72 @@ fn keyword_part(text: &[u8]) -> Span
 
 // The value in its field: a number ends at the first blank.
 #[tactic(auto, unfolding(crate::specs::Parts::value_in))]
-fn value_in(kind: Kind, p: Span, text: &[u8]) -> Span
-    requires { Inside p text.now }
-    ensures { result ≡ value_in kind p text.now }
+fn value_in(kind: Option<Kind>, p: &Part) -> Span
+    ensures { result ≡ value_in kind p.now.span p.now.text.now }
 {
-    let from = p.from;
-    let to = p.to;
     match kind {
-        Kind::Number => Span {
-            from,
-            to: from + byte_at(&text[from..to], 32),
-        },
-        Kind::Version => p,
-        Kind::Text => p,
-        Kind::Integer => p,
-        Kind::Epoch => p,
-        Kind::Nothing => p,
+        Some(Kind::Number) => p.split().0.span,
+        _ => p.span,
     }
 }
 
-// What kind of value an assignment's keyword has.
-fn kind_in(form: Form, x: Sides, text: &[u8]) -> Kind
-    requires { Inside x.keyword text.now }
-    ensures { result ≡ kind_in form x text.now }
-{
-    let keyword = x.keyword;
-    let from = keyword.from;
-    let to = keyword.to;
-    match grammar::keyword_of(form, &text[from..to]) {
-        Keyword::Code(code) => grammar::kind_of(code),
-        Keyword::Unknown => Kind::Nothing,
-    }
-}
-
-// The first of a data line's fields but the epoch that is no number, or the epoch.
-#[tactic(auto, using(crate::proofs::Laws::wrong_none, crate::proofs::Laws::wrong_later, crate::proofs::Laws::wrong_here))]
-fn first_wrong(spans: [Span; 7], text: &[u8]) -> Span
-    requires { SevenInside spans text.now }
-    ensures { result ≡ first_wrong (get_or spans 0 no_span) (drop 1 spans) text.now }
-{
-    let mut i = 1;
-    while i < 7 {
-        let p = spans[i];
-        let from = p.from;
-        let to = p.to;
-        if !values::is_number(&text[from..to]) {
-            return p;
-        }
-        i += 1;
-    }
-    spans[0]
-}
-
-// The one field of a data line.
+// The one field of a data line: the epoch, or the first of the others that is no number.
+#[tactic(auto, using(step::proofs::Laws::fields_inside), unfolding(crate::specs::Parts::data_part))]
 fn data_part(state: State, text: &[u8]) -> Span
     ensures { result ≡ data_part state text.now }
 {
-    let f = lines::fields_of(text);
-    let spans = f.spans;
-    let p = spans[0];
-    let from = p.from;
-    let to = p.to;
-    match epoch_of(&text[from..to], state.utc) {
-        Epoch::Bad => p,
-        Epoch::At(_) => first_wrong(spans, text),
+    let fields = lines::fields_of(text);
+    let line = DataLine { text, fields };
+    let epoch = line.epoch();
+    match epoch_of(epoch.bytes(), state.utc) {
+        None => epoch.span,
+        Some(_) => line.wrong().unwrap_or(epoch.span),
     }
 }
 
 // The value, of an assignment or a data line.
+#[tactic(auto, using(step::proofs::Laws::sides_inside), unfolding(crate::specs::Parts::value_part, crate::specs::Parts::kind_in))]
 fn value_part(state: State, text: &[u8]) -> Span
     ensures { result ≡ value_part state text.now }
 {
-    match lines::assignment_of(text) {
-        Assignment::Parted(x) => {
-            let form = state.form;
-            value_in(kind_in(form, x, text), x.value, text)
-        }
-        Assignment::Other => data_part(state, text),
-    }
+    let Some(x) = lines::assignment_of(text) else {
+        return data_part(state, text);
+    };
+    let keyword = Part {
+        text,
+        span: x.keyword,
+    };
+    let value = Part {
+        text,
+        span: x.value,
+    };
+    let kind = grammar::keyword_of(state.form, keyword.bytes()).and_then(grammar::kind_of);
+    value_in(kind, &value)
 }
 
 // What follows a number, trimmed.
+#[tactic(auto, using(crate::proofs::Laws::sides_within))]
 fn unit_part(text: &[u8]) -> Span
     ensures { result ≡ unit_part text.now }
 {
-    let x = sides_in(text);
-    let p = x.value;
-    let from = p.from;
-    let to = p.to;
-    let value = &text[from..to];
-    let n = byte_at(value, 32);
-    let u = lines::trim(&value[n..]);
-    let blanks = u.from;
-    let end = u.to;
-    let past = from + n;
-    Span {
-        from: past + blanks,
-        to: past + end,
-    }
+    let value = Part {
+        text,
+        span: sides_in(text).value,
+    };
+    value.split().1.trim().span
 }
 
 // The bytes that offend in a line, by the reason.
+#[tactic(auto, unfolding(crate::specs::Parts::offending, grammar::specs::Rows::pick))]
 pub fn offending_part(state: State, text: &[u8], reason: Reason) -> Span
     ensures { result ≡ offending state text.now reason }
 {
-    match reason_number(reason) {
-        3 => past_long(text),
-        4 => first_odd(text),
-        6 => keyword_part(text),
-        8 => value_part(state, text),
-        9 => unit_part(text),
-        10 => value_part(state, text),
+    match reason {
+        Reason::Long => past_long(text),
+        Reason::Byte => first_odd(text),
+        Reason::Keyword => keyword_part(text),
+        Reason::Value | Reason::TimeOrder => value_part(state, text),
+        Reason::Unit => unit_part(text),
         _ => lines::trim(text),
     }
 }

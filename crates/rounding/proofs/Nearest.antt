@@ -17,10 +17,9 @@ use Rattle.values.specs.Number.{is_number}
 use Rattle.rounding.specs.Exact.{is_minus, numerator, denominator}
 use Rattle.rounding.specs.Say.{rounded, signed, size_limit, said_of, say_of}
 use Rattle.rounding.specs.Nearest.{NearTo, AwayFromZero, SignOf, Near, Away, Sign, Largest, TooBig, OneAnswer}
-use Rattle.rounding.specs.declared.Said.{Said}
-use Rattle.rounding.specs.declared.Said.TheVariants.{Units, Refused}
 use Rattle.rounding.proofs.Laws.{said_big, said_small, say_units}
 use Rattle.rounding.proofs.Rounds.{rounds_to, pos_ten}
+use Rattle.std.specs.Prelude.{Result, Ok, Err}
 
 -- ---- how far two sizes with the same sign lie apart
 
@@ -85,10 +84,10 @@ unsigned-size false (negsuc n) e = absurd (false≢true (sym e))
 
 -- ---- the theorems
 
-clash : {r : Reason} {z : ℤ} → Refused r ≡ Units z → ⊥
+clash : {r : Reason} {z : ℤ} → Err r ≡ Ok z → ⊥
 clash e = let x : ◌≡◌ {A = ℕ} 0 1 = cc in omega arith
 
-number_of : {r t : Reason} → Refused r ≡ Refused t → reason_no r ≡ reason_no t
+number_of : {r t : Reason} → ◌≡◌ {A = Result ℤ Reason} (Err r) (Err t) → reason_no r ≡ reason_no t
 number_of {r} {t} e = let x : r ≡ t = cc in ap reason_no x
 
 module _ (s : List ℕ) (decimals : ℕ) where
@@ -107,22 +106,22 @@ module _ (s : List ℕ) (decimals : ℕ) where
   some : 0 < q
   some = pos_ten _
 
-  abbrev answer : Bool → Bool → Bool → Said
+  abbrev answer : Bool → Bool → Bool → Result ℤ Reason
   answer many number big =
       elim many [
-        | true ↦ Refused Reasons.Places
-        | false ↦ elim number [ false ↦ Refused Reasons.Value | true ↦ elim big [ true ↦ Refused Reasons.TooBig | false ↦ Units (signed minus size) ] ]
+        | true ↦ Err Reasons.Places
+        | false ↦ elim number [ false ↦ Err Reasons.Value | true ↦ elim big [ true ↦ Err Reasons.TooBig | false ↦ Ok (signed minus size) ] ]
       ]
 
   is_answer : say_of s decimals ≡ answer (ltb 6 decimals) (is_number s) (ltb size_limit size)
   unfolding say_of said_of
   is_answer = refl
 
-  module _ (z : ℤ) (e : say_of s decimals ≡ Units z) where
+  module _ (z : ℤ) (e : say_of s decimals ≡ Ok z) where
     is_signed : z ≡ signed minus size
     is_signed = go (ltb 6 decimals) (is_number s) (ltb size_limit size) (sym is_answer ∙ e)
       where
-        go : (a b c : Bool) → answer a b c ≡ Units z → z ≡ signed minus size
+        go : (a b c : Bool) → answer a b c ≡ Ok z → z ≡ signed minus size
         go true b c k = absurd (clash k)
         go false false c k = absurd (clash k)
         go false true true k = absurd (clash k)
@@ -139,10 +138,10 @@ module _ (s : List ℕ) (decimals : ℕ) where
     sign_of : SignOf s z
     sign_of = rw is_signed (sign_signed minus size)
 
-  big_only : say_of s decimals ≡ Refused Reasons.TooBig → (decimals ≤ 6) × (is_number s ≡ true) × (size_limit < size)
+  big_only : say_of s decimals ≡ Err Reasons.TooBig → (decimals ≤ 6) × (is_number s ≡ true) × (size_limit < size)
   big_only e = go (ltb 6 decimals) (is_number s) (ltb size_limit size) refl refl refl (sym is_answer ∙ e)
     where
-      go : (a b c : Bool) → ltb 6 decimals ≡ a → is_number s ≡ b → ltb size_limit size ≡ c → answer a b c ≡ Refused Reasons.TooBig
+      go : (a b c : Bool) → ltb 6 decimals ≡ a → is_number s ≡ b → ltb size_limit size ≡ c → answer a b c ≡ Err Reasons.TooBig
           → (decimals ≤ 6) × (is_number s ≡ true) × (size_limit < size)
       go true b c i j l k = absurd (let x = number_of k in omega arith)
       go false false c i j l k = absurd (let x = number_of k in omega arith)
@@ -150,7 +149,7 @@ module _ (s : List ℕ) (decimals : ℕ) where
       go false true false i j l k = absurd (clash (sym k))
 
   module _ (few : decimals ≤ 6) (number : is_number s ≡ true) where
-    big_if : size_limit < size → say_of s decimals ≡ Refused Reasons.TooBig
+    big_if : size_limit < size → say_of s decimals ≡ Err Reasons.TooBig
     big_if h = say_units s decimals few number ∙ said_big minus size h
 
     module _ (z : ℤ) (near : NearTo s decimals z) (away : AwayFromZero s decimals z) (sign : SignOf s z) where
@@ -169,9 +168,9 @@ module _ (s : List ℕ) (decimals : ℕ) where
               let half : 2 * n ≡ (2 * nat_abs z + 1) * q = omega (arith, apart_by, ltb-false (2 * n + q) ((nat_abs z + 1) * (2 * q)) e) in
               absurd (not-suc-le_self (nat_abs z) (omega (arith, away (nat_abs z) half)))
 
-      one : (nat_abs z ≤ size_limit → say_of s decimals ≡ Units z) × (size_limit < nat_abs z → say_of s decimals ≡ Refused Reasons.TooBig)
+      one : (nat_abs z ≤ size_limit → say_of s decimals ≡ Ok z) × (size_limit < nat_abs z → say_of s decimals ≡ Err Reasons.TooBig)
       one = (
-        λ h. say_units s decimals few number ∙ said_small minus size (omega (arith, only)) ∙ ap Units (ap (signed minus) only ∙ sym as_signed),
+        λ h. say_units s decimals few number ∙ said_small minus size (omega (arith, only)) ∙ ap Ok (ap (signed minus) only ∙ sym as_signed),
         λ h. big_if (omega (arith, only)),
       )
 

@@ -86,6 +86,17 @@ module _ (s : List ℕ) (h : is_number s ≡ true) where
   pub power_small : digits_from 0 (unsigned (behind (behind u))) < 1000
   power_small = exponent_below (behind (behind u)) sound.1
 
+  -- the same of the parts that were read
+  module _ (v : List ℕ) (e : v ≡ unsigned s) where
+    pub whole_fits : read_on 0 v < 2 ^ 64
+    whole_fits = rw e whole_small
+
+    pub digits_fit : (w : ℕ) (b : List ℕ) → w ≡ read_on 0 v → b ≡ behind v → read_on w b < 2 ^ 64
+    digits_fit w b f g = rw (f, g, e) digits_small
+
+    pub power_fits : (b : List ℕ) → b ≡ behind v → digits b + digits_from 0 (unsigned (behind b)) < 2 ^ 64
+    power_fits b g = rw (g, e) (omega (arith, few_places, power_small))
+
   pub up_small : (size_of s).up < 1000
   up_small = go (is_minus (behind (behind u)))
     where

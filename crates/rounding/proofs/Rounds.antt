@@ -60,6 +60,9 @@ raise_more v p i h =
 pub raise_least : (v k : ℕ) → v ≤ v * 10 ^ k
 raise_least v k = le-mul_of_pos_right v (pos_ten k)
 
+pub raise_over : (v k w top : ℕ) → v * 10 ^ k ≡ w → top < v → top < w
+raise_over v k w top e h = omega (arith, raise_least v k)
+
 -- what multiplies and what divides cancel
 pub scaled_down : (n up down : ℕ) → up < down → rounded (n * 10 ^ up) (10 ^ down) ≡ rounded n (10 ^ (down - up - 1 + 1))
 scaled_down n up down h =

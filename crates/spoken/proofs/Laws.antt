@@ -1,18 +1,17 @@
 -- Laws of the definitions on values said, one a case.
 -- Assumes nothing.
-use mathlib.Core.Path.{◌≡◌, refl}
-use mathlib.Core.List.{List, [], ◌∷◌, ◌++◌}
+use mathlib.Core.Path.{◌≡◌, refl, ap, ◌∙◌}
+use mathlib.Core.List.{List, [], ◌∷◌, ◌++◌, append_assoc}
 use mathlib.Core.Bool.{Bool, true, false}
-use Prim.Native.Nat.{ℕ, ◌+◌, ◌-◌, ◌*◌, ◌≤◌, ◌<◌}
+use Prim.Native.Nat.{ℕ, ◌+◌, ◌*◌, ◌≤◌, ◌<◌}
 use native.Mathlib.Omega.{arith}
 use native.Mathlib.Numerals.{add-one}
-use lib.ListN.{length, get_or, take, drop, length-append, drop_of_length-le}
+use lib.ListN.{length, get_or, drop, length-append, drop_of_length-le}
 use lib.Seq.{drop-cons}
 use borrow.Author.Tests.{lt-ltb, le-ltb, ltb-true, ltb-false, eq-eqb, ne_eqb}
 use Rattle.words.specs.Words.{bytes}
 use Rattle.lines.specs.Text.{is_long, odd_at}
 use Rattle.grammar.specs.Keywords.{kinds, kind_of}
-use Rattle.grammar.specs.declared.Kind.TheVariants.{Nothing}
 use Rattle.grammar.proofs.Laws.{picks}
 use Rattle.reasons.specs.declared.Reason.TheVariants as Reasons
 use Rattle.spoken.specs.Saying.{said_by, mark_at, said_from, framed, words_by}
@@ -22,22 +21,21 @@ use Rattle.spoken.specs.declared.Mark.{Mark}
 use Rattle.spoken.specs.declared.Mark.TheVariants.{Itself, Plus, Minus, Power, Month, Day, Clock, Hours, Minutes}
 use Rattle.spoken.specs.declared.Manner.{Manner}
 use Rattle.spoken.specs.declared.Manner.TheVariants.{Plain, Numeral, Calendar, Ordinal}
-use Rattle.spoken.specs.declared.Way.TheVariants.{By, Unsaid}
-use Rattle.spoken.specs.declared.Spoken.TheVariants.{Words, Refused}
+use Rattle.std.specs.Prelude.{Some, None, Ok, Err}
 
 -- ---- which values are said
 
 module _ (c : ℕ) (v : List ℕ) where
-  pub way_long : 254 < length v → Unsaid ≡ way_of c v
+  pub way_long : 254 < length v → None ≡ way_of c v
   unfolding way_of
   way_long h = rw (lt-ltb _ _ h, way_of)
 
-  pub way_odd : length v ≤ 254 → odd_at v < length v → Unsaid ≡ way_of c v
+  pub way_odd : length v ≤ 254 → odd_at v < length v → None ≡ way_of c v
   unfolding way_of
   way_odd h o = rw (le-ltb _ _ h, lt-ltb _ _ o, way_of)
 
   module _ (h : length v ≤ 254) (o : length v ≤ odd_at v) where
-    pub way_comment : c ≡ 45 → By Plain ≡ way_of c v
+    pub way_comment : c ≡ 45 → Some Plain ≡ way_of c v
     unfolding way_of
     way_comment e = rw (le-ltb _ _ h, le-ltb _ _ o, eq-eqb _ _ e, way_of)
 
@@ -46,7 +44,7 @@ module _ (c : ℕ) (v : List ℕ) where
     way_kind e = rw (le-ltb _ _ h, le-ltb _ _ o, ne_eqb _ _ e, way_of)
 
   -- what is said is not long
-  pub way_few : (m : Manner) → way_of c v ≡ By m → length v ≤ 254
+  pub way_few : (m : Manner) → way_of c v ≡ Some m → length v ≤ 254
   way_few m e = go (is_long v) refl
     where
       go : (t : Bool) → is_long v ≡ t → length v ≤ 254
@@ -54,25 +52,37 @@ module _ (c : ℕ) (v : List ℕ) where
       go true q = let z : ◌≡◌ {A = ℕ} 0 1 = cc (way_long (ltb-true _ _ q)) in absurd (omega arith)
 
 -- past the codes there is no kind of value
-pub no_kind : (c : ℕ) → 65535 < c → Nothing ≡ kind_of c
+pub no_kind : (c : ℕ) → 65535 < c → None ≡ kind_of c
 no_kind c h = picks kinds _ 11 _ (omega arith)
 
 -- ---- a value's words, byte by byte
 
--- the byte at a place, as a part
-pub byte_part : (v : List ℕ) (i : ℕ) → i < length v → take (i + 1 - i) (drop i v) ≡ get_or v i 0 ∷ []
-byte_part v i h =
-    let n : i + 1 - i ≡ 1 = omega arith in
-    rw (n, drop-cons v i 0 h)
-
-pub said_turn : (m : Manner) (v : List ℕ) (i : ℕ) → i < length v
-    → said_from m i (drop i v) ≡ said_by (mark_at m i (get_or v i 0)) (take (i + 1 - i) (drop i v)) ++ said_from m (i + 1) (drop (i + 1) v)
+said_turn : (m : Manner) (v : List ℕ) (i : ℕ) → i < length v
+    → said_from m i (drop i v) ≡ said_by (mark_at m i (get_or v i 0)) (get_or v i 0 ∷ []) ++ said_from m (i + 1) (drop (i + 1) v)
 unfolding said_from
-said_turn m v i h = rw (byte_part v i h, drop-cons v i 0 h, add-one i)
+said_turn m v i h = rw (drop-cons v i 0 h, add-one i)
 
-pub said-end : (m : Manner) (v : List ℕ) (i : ℕ) → length v ≤ i → said_from m i (drop i v) ≡ []
+said_end : (m : Manner) (v : List ℕ) (i : ℕ) → length v ≤ i → said_from m i (drop i v) ≡ []
 unfolding said_from
-said-end m v i h = rw (drop_of_length-le v h)
+said_end m v i h = rw (drop_of_length-le v h)
+
+-- the words of the bytes from a place on, and those behind them
+abbrev pub words_from : Manner → List ℕ → ℕ → List ℕ
+words_from m v i = said_from m i (drop i v) ++ framed m (bytes " seconds")
+
+pub words_first : (m : Manner) (v : List ℕ) → words_by m v ≡ framed m (bytes "year ") ++ words_from m v 0
+unfolding words_by
+words_first m v = refl
+
+-- the next byte's, and those after it
+pub words_turn : (m : Manner) (v : List ℕ) (i : ℕ) → i < length v → words_from m v i ≡ said_by (mark_at m i (get_or v i 0)) (get_or v i 0 ∷ []) ++ words_from m v (i + 1)
+words_turn m v i h =
+    ap (λ (l : List ℕ). l ++ framed m (bytes " seconds")) (said_turn m v i h)
+    ∙ append_assoc (said_by (mark_at m i (get_or v i 0)) (get_or v i 0 ∷ [])) (said_from m (i + 1) (drop (i + 1) v)) (framed m (bytes " seconds"))
+
+-- all bytes are said
+pub words_end : (m : Manner) (v : List ℕ) (i : ℕ) → length v ≤ i → words_from m v i ≡ framed m (bytes " seconds")
+words_end m v i h = rw (said_end m v i h)
 
 -- ---- how long words are
 
@@ -117,10 +127,10 @@ words_few m v h = omega (arith, words_long m v, said-few m 0 v)
 -- ---- words, and a buffer that has room for them or has not
 
 module _ (o : List ℕ) (room : ℕ) where
-  pub fitted_no : room < length o → fitted o room ≡ Refused Reasons.NoRoom
+  pub fitted_no : room < length o → fitted o room ≡ Err Reasons.NoRoom
   unfolding fitted
   fitted_no h = rw (lt-ltb room (length o) h, fitted)
 
-  pub fitted-words : length o ≤ room → fitted o room ≡ Words (length o)
+  pub fitted-words : length o ≤ room → fitted o room ≡ Ok (length o)
   unfolding fitted
   fitted-words h = rw (le-ltb room (length o) h, fitted)

@@ -1,19 +1,17 @@
 // A value in words for a voice, written into a lent buffer. Every public function answers for any bytes.
 #![tactic(auto)]
 
-ghost use Rattle.std.specs.Prelude.{◌≡◌, ◌≤◌, ◌<◌, ◌+◌, length};
-ghost use Rattle.ink.specs.Ink.{inked, Room};
+ghost use Rattle.std.specs.Prelude.{◌≡◌, ◌≤◌, length};
 ghost use Rattle.spoken.specs.Saying.{said_by, mark_at, framed, words_by};
-ghost use Rattle.spoken.specs.Way.{way_if, epoch_way, way_in, way_of};
+ghost use Rattle.spoken.specs.Way.{epoch_way, way_in, way_of};
 ghost use Rattle.spoken.specs.Spoken.{fitted, spoken_of, words_of, buffer_after};
 
-use epochs::Epoch;
 use grammar::Kind;
-use ink::put;
+use ink::{Ink, Pen, Ruler};
 use reasons::Reason;
 
 // How a value's bytes are said: as they stand, as a number's, or as an epoch's in one of its two forms.
-#[derive(Clone, Copy)]
+#[derive(Clone, Copy, Debug, PartialEq, Eq)]
 pub enum Manner {
     Plain,
     Numeral,
@@ -21,15 +19,8 @@ pub enum Manner {
     Ordinal,
 }
 
-// The manner of a value that is right in its kind; any other is not said.
-#[derive(Clone, Copy)]
-pub enum Way {
-    By(Manner),
-    Unsaid,
-}
-
 // What a byte is said as: itself, or the words of a mark.
-#[derive(Clone, Copy)]
+#[derive(Clone, Copy, Debug, PartialEq, Eq)]
 pub enum Mark {
     Itself,
     Plus,
@@ -42,67 +33,51 @@ pub enum Mark {
     Minutes,
 }
 
-// The words' length, or why there are none.
-#[derive(Clone, Copy)]
-pub enum Spoken {
-    Words(u32),
-    Refused(Reason),
-}
-
-fn way_if(right: bool, manner: Manner) -> Way
-    ensures { result ≡ way_if right manner }
-{
-    if right {
-        return Way::By(manner);
-    }
-    Way::Unsaid
-}
-
 #[tactic(auto, unfolding(crate::specs::Way::epoch_way, words::specs::Words::bytes))]
-fn epoch_way(value: &[u8]) -> Way
+fn epoch_way(value: &[u8]) -> Option<Manner>
     ensures { result ≡ epoch_way value.now }
 {
     match epochs::epoch_of(value, true) {
-        Epoch::At(_) => {
+        Some(_) => {
             if epochs::has_shape(value, b"0000-00-00T00:00:00") {
-                return Way::By(Manner::Calendar);
+                return Some(Manner::Calendar);
             }
-            Way::By(Manner::Ordinal)
+            Some(Manner::Ordinal)
         }
-        Epoch::Bad => Way::Unsaid,
+        None => None,
     }
 }
 
 #[tactic(auto, unfolding(crate::specs::Way::way_in))]
-fn way_in(kind: Kind, value: &[u8]) -> Way
+fn way_in(kind: Option<Kind>, value: &[u8]) -> Option<Manner>
     ensures { result ≡ way_in kind value.now }
 {
     match kind {
-        Kind::Version => way_if(values::is_version(value), Manner::Plain),
-        Kind::Text => way_if(values::is_text(value), Manner::Plain),
-        Kind::Integer => way_if(values::is_integer(value), Manner::Numeral),
-        Kind::Number => way_if(values::is_number(value), Manner::Numeral),
-        Kind::Epoch => epoch_way(value),
-        Kind::Nothing => Way::Unsaid,
+        Some(Kind::Version) => values::is_version(value).then_some(Manner::Plain),
+        Some(Kind::Text) => values::is_text(value).then_some(Manner::Plain),
+        Some(Kind::Integer) => values::is_integer(value).then_some(Manner::Numeral),
+        Some(Kind::Number) => values::is_number(value).then_some(Manner::Numeral),
+        Some(Kind::Epoch) => epoch_way(value),
+        None => None,
     }
 }
 
 // How the value of a code is said, if it is right.
 #[tactic(auto, unfolding(crate::specs::Way::way_of, crate::specs::Way::way_in, grammar::specs::Rows::pick))]
-fn way_of(code: u32, value: &[u8]) -> Way
+fn way_of(code: u32, value: &[u8]) -> Option<Manner>
     ensures { result ≡ way_of code value.now }
 {
     if 254 < value.len() {
-        return Way::Unsaid;
+        return None;
     }
     if lines::odd_at(value) < value.len() {
-        return Way::Unsaid;
+        return None;
     }
     if code == 45 {
-        return Way::By(Manner::Plain);
+        return Some(Manner::Plain);
     }
     if 65535 < code {
-        return Way::Unsaid; // no code
+        return None; // no code
     }
     way_in(grammar::kind_of(code as u16), value)
 }
@@ -161,78 +136,71 @@ fn mark_at(manner: Manner, at: usize, byte: u8) -> Mark
 
 // A mark's words, or the byte itself.
 #[tactic(auto, unfolding(words::specs::Words::bytes))]
-fn put_mark(buffer: &mut [u8], n: usize, mark: Mark, itself: &[u8], writing: bool) -> usize
-    requires { Room writing n (said_by mark itself.now) buffer.old }
-    ensures answer { result ≡ n + length (said_by mark itself.now) }
-    ensures buffer { buffer.new ≡ inked writing n (said_by mark itself.now) buffer.old }
+fn said_by(mark: Mark, itself: &[u8]) -> &[u8]
+    ensures { result.now ≡ said_by mark itself.now }
 {
     match mark {
-        Mark::Itself => put(buffer, n, itself, writing),
-        Mark::Plus => put(buffer, n, b"plus ", writing),
-        Mark::Minus => put(buffer, n, b"minus ", writing),
-        Mark::Power => put(buffer, n, b" times ten to the ", writing),
-        Mark::Month => put(buffer, n, b" month ", writing),
-        Mark::Day => put(buffer, n, b" day ", writing),
-        Mark::Clock => put(buffer, n, b", ", writing),
-        Mark::Hours => put(buffer, n, b" hours ", writing),
-        Mark::Minutes => put(buffer, n, b" minutes ", writing),
+        Mark::Itself => itself,
+        Mark::Plus => b"plus ",
+        Mark::Minus => b"minus ",
+        Mark::Power => b" times ten to the ",
+        Mark::Month => b" month ",
+        Mark::Day => b" day ",
+        Mark::Clock => b", ",
+        Mark::Hours => b" hours ",
+        Mark::Minutes => b" minutes ",
     }
 }
 
 // Words that an epoch alone has.
-#[tactic(auto, unfolding(ink::specs::Ink::inked))]
-fn put_framed(buffer: &mut [u8], n: usize, manner: Manner, frame: &[u8], writing: bool) -> usize
-    requires { Room writing n (framed manner frame.now) buffer.old }
-    ensures answer { result ≡ n + length (framed manner frame.now) }
-    ensures buffer { buffer.new ≡ inked writing n (framed manner frame.now) buffer.old }
+fn framed(manner: Manner, frame: &[u8]) -> &[u8]
+    ensures { result.now ≡ framed manner frame.now }
 {
     match manner {
-        Manner::Plain => n,
-        Manner::Numeral => n,
-        Manner::Calendar => put(buffer, n, frame, writing),
-        Manner::Ordinal => put(buffer, n, frame, writing),
+        Manner::Plain | Manner::Numeral => b"",
+        Manner::Calendar | Manner::Ordinal => frame,
     }
 }
 
-// All of a value's words, from the buffer's start on, or only measured.
-fn put_words(buffer: &mut [u8], value: &[u8], manner: Manner, writing: bool) -> usize
-    requires { Room writing 0 (words_by manner value.now) buffer.old }
-    ensures answer { result ≡ length (words_by manner value.now) }
-    ensures buffer { buffer.new ≡ inked writing 0 (words_by manner value.now) buffer.old }
+// All of a value's words.
+#[tactic(auto, using(crate::proofs::Laws::words_first, crate::proofs::Laws::words_turn, crate::proofs::Laws::words_end), unfolding(words::specs::Words::bytes))]
+fn put_words<I: Ink>(ink: &mut I, value: &[u8], manner: Manner)
+    requires { I.room ink.old (words_by manner value.now) }
+    ensures { ink.new ≡ I.after ink.old (words_by manner value.now) }
 {
-    let mut n = put_framed(buffer, 0, manner, b"year ", writing);
-    let mut at = 0;
-    while at < value.len() {
-        let mark = mark_at(manner, at, value[at]);
-        n = put_mark(buffer, n, mark, &value[at..at + 1], writing);
-        at += 1;
+    ink.put(framed(manner, b"year "));
+    for (at, &byte) in value.iter().enumerate() {
+        ink.put(said_by(mark_at(manner, at, byte), &[byte]));
     }
-    put_framed(buffer, n, manner, b" seconds", writing)
+    ink.put(framed(manner, b" seconds"));
 }
 
 // A value that is right, measured first: nothing is written before it is known to fit.
-#[tactic(auto, using(crate::proofs::Laws::words_few, ink::proofs::Laws::put_whole), unfolding(crate::specs::Spoken::fitted, crate::specs::Spoken::buffer_after, ink::specs::Ink::inked))]
-fn say(buffer: &mut [u8], value: &[u8], manner: Manner) -> Spoken
+// `write::write_found` measures and writes so too: one function for both takes a trait of what can be put and a struct for each, in place of these five lines.
+#[tactic(auto, using(crate::proofs::Laws::words_few, ink::proofs::Laws::put_whole), unfolding(crate::specs::Spoken::fitted, crate::specs::Spoken::buffer_after))]
+fn say(buffer: &mut [u8], value: &[u8], manner: Manner) -> Result<u32, Reason>
     requires { length value.now ≤ 254 }
     ensures answer { result ≡ fitted (words_by manner value.now) (length buffer.old) }
     ensures buffer { buffer.new ≡ buffer_after result (words_by manner value.now) buffer.old }
 {
-    let length = put_words(buffer, value, manner, false);
-    if buffer.len() < length {
-        return Spoken::Refused(Reason::NoRoom);
+    let mut ruler = Ruler::new();
+    put_words(&mut ruler, value, manner);
+    if buffer.len() < ruler.len() {
+        return Err(Reason::NoRoom);
     }
-    put_words(buffer, value, manner, true);
-    Spoken::Words(length as u32)
+    let mut pen = Pen::new(buffer);
+    put_words(&mut pen, value, manner);
+    Ok(ruler.len() as u32)
 }
 
 // How the value of a code is said, written into the buffer where it is right and there is room.
 #[tactic(auto, using(crate::proofs::Laws::way_few), unfolding(crate::specs::Spoken::spoken_by, crate::specs::Spoken::words_in, crate::specs::Spoken::buffer_after))]
-pub fn in_words(code: u32, value: &[u8], buffer: &mut [u8]) -> Spoken
+pub fn in_words(code: u32, value: &[u8], buffer: &mut [u8]) -> Result<u32, Reason>
     ensures answer { result ≡ spoken_of code value.now (length buffer.old) }
     ensures buffer { buffer.new ≡ buffer_after result (words_of code value.now) buffer.old }
 {
     match way_of(code, value) {
-        Way::By(manner) => say(buffer, value, manner),
-        Way::Unsaid => Spoken::Refused(Reason::Value),
+        Some(manner) => say(buffer, value, manner),
+        None => Err(Reason::Value),
     }
 }

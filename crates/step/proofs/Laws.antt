@@ -1,99 +1,93 @@
 -- Laws of the definitions on a line judged.
 -- Assumes nothing.
-use mathlib.Core.Path.{◌≡◌, refl, ap, sym, ◌∙◌}
+use mathlib.Core.Path.{◌≡◌, refl, sym, ap, ◌∙◌}
 use mathlib.Core.List.{List, [], ◌∷◌}
-use mathlib.Core.Bool.{Bool, true, false, not}
+use mathlib.Core.Bool.{Bool, true, false, not, ◌&&◌, cond}
+use Rattle.std.proofs.Common.{All as EachOf, find, is_none, Some}
+use Rattle.std.proofs.lemmas.List.{take_all, drop-take, get_or_default}
+use lib.Seq.{take-take, drop-drop}
+use Rattle.std.proofs.lemmas.Grind.{get_or_after_one}
 use Prim.Native.Nat.{ℕ, zero, suc, ◌+◌, ◌-◌, ◌≤◌, ◌<◌}
-use native.Mathlib.Numerals.{add-one}
 use native.Mathlib.Omega.{arith}
-use lib.ListN.{length, get_or, set, take, drop, replicate, length-set, length-take, length-drop, drop_of_length-le}
-use lib.Seq.{drop-cons}
+use lib.ListN.{length, get_or, set, take, drop, replicate, length-set, length-take, length-drop}
 use Rattle.lines.specs.Text.{no_span}
-use Rattle.lines.specs.declared.Assignment.TheVariants as Assigns
 use Rattle.lines.specs.declared.Span.{Span}
 use Rattle.values.specs.Number.{is_number}
 use lib.Dec.{eqb, ltb}
 use Rattle.words.proofs.Laws.{run-le}
-use Rattle.lines.specs.Text.{is_blank, is_long, odd_at, equals_at, trim_of, sides_of, assignment_of, field_then, fields_from, fields_in, field_more, gathered, no_fields, split_of}
+use Rattle.lines.specs.Text.{is_blank, moved, is_long, odd_at, equals_at, trim_of, sides_of, assignment_of, field_then, fields_from, fields_in, field_more, gathered, no_fields, split_of}
 use Rattle.lines.specs.declared.Sides.{Sides}
 use Rattle.lines.specs.declared.Fields.{Fields}
 use borrow.Author.Tests.{ltb-true}
 use Rattle.lines.proofs.Laws.{trim_within}
-use Rattle.epochs.specs.Epoch.{epoch_of}
-use Rattle.epochs.specs.declared.Epoch.{Epoch}
-use Rattle.epochs.specs.declared.Instant.{Instant}
 use Rattle.grammar.specs.Keywords.{is_unit}
-use Rattle.grammar.specs.declared.Form.{Form}
-use Rattle.grammar.specs.declared.Form.TheVariants.{Opm, Oem}
-use Rattle.step.specs.Step.{part, Inside, SevenInside, are_numbers, is_timely, word_len, number_of, no_row, one_row, seven_rows, past, past_data, past_comment, wrong, fields_of, data_at, data_of, filled_of, step_of}
+use Rattle.lines.specs.declared.Form.{Form}
+use Rattle.lines.specs.declared.Form.TheVariants.{Opm, Oem}
+use Rattle.step.specs.Step.{part, Inside, SevenInside, are_numbers, word_len, number_of, no_row, one_row, past, fields_of, data_of, filled_of, step_of}
 use Rattle.step.specs.declared.State.{State}
 use Rattle.step.specs.declared.Step.{Step}
-use Rattle.step.specs.declared.Verdict.TheVariants.{Right}
 use Rattle.reasons.specs.declared.Reason.{Reason}
 use Rattle.reasons.specs.declared.Reason.TheVariants as Reasons
+use Rattle.std.specs.Prelude.{Some, None, Result, Ok, Err, IsOk}
 
--- ---- fields that are numbers, seen from a place in the list of spans
+-- ---- fields that are numbers
 
-module _ (ps : List Span) (s : List ℕ) (i : ℕ) where
-  pub numbers_end : length ps ≤ i → are_numbers (drop i ps) s ≡ true
-  unfolding are_numbers
-  numbers_end h = rw (drop_of_length-le ps h)
+pub numbers_none : (ps : List Span) (s : List ℕ) → is_none (find (λ p. not (is_number (part p s))) ps) ≡ are_numbers ps s
+unfolding are_numbers
+numbers_none [] s = refl
+numbers_none (p ∷ ps) s = go (is_number (part p s)) (numbers_none ps s)
+  where
+    go : (t : Bool) → is_none (find (λ q. not (is_number (part q s))) ps) ≡ are_numbers ps s
+        → is_none (cond (not t) (Some p) (find (λ q. not (is_number (part q s))) ps)) ≡ t && are_numbers ps s
+    go true e = e
+    go false e = refl
 
-  pub numbers_more : i < length ps → is_number (part (get_or ps i no_span) s) ≡ true → are_numbers (drop i ps) s ≡ are_numbers (drop (i + 1) ps) s
-  unfolding are_numbers
-  numbers_more h e = rw (add-one i, drop-cons ps i no_span h, e)
+-- the fields behind the first, as the code has them
+module _ (ps : List Span) (s : List ℕ) (h : SevenInside ps s) where
+  pub rest_whole : take 6 (drop 1 ps) ≡ drop 1 ps
+  rest_whole = take_all 6 (drop 1 ps) (omega (arith, h.size, length-drop 1 ps))
 
-  pub numbers_stop : i < length ps → is_number (part (get_or ps i no_span) s) ≡ false → are_numbers (drop i ps) s ≡ false
-  unfolding are_numbers
-  numbers_stop h e = rw (drop-cons ps i no_span h, e)
+  pub rest_inside : EachOf (λ p. Inside p s) (take 6 (drop 1 ps))
+  rest_inside k d e =
+      let q : get_or (take 6 (drop 1 ps)) k d ≡ get_or ps (1 + k) no_span =
+      get_or_default (take 6 (drop 1 ps)) k d no_span e ∙ ap (λ (xs : List Span). get_or xs k no_span) rest_whole ∙ get_or_after_one ps k no_span in
+      rw q (h.inside (1 + k))
 
 -- ---- what goes by the message type
-
-pub comment_in : (st : State) (f : Form) → st.form ≡ f
-    → past_comment st ≡ elim f [ Opm ↦ st | Oem ↦ elim (eqb st.last 9) [ true ↦ past st 45 | false ↦ st ] ]
-unfolding past_comment
-comment_in st f e = ap (λ (g : Form). elim g [ Opm ↦ st | Oem ↦ elim (eqb st.last 9) [ true ↦ past st 45 | false ↦ st ] ]) e
 
 pub fields_in_lem : (st : State) (s : List ℕ) (f : Form) → st.form ≡ f
     → fields_of st s
     ≡ elim f [
-      | Opm ↦ wrong st Reasons.Form
-      | Oem ↦ elim (eqb (split_of s).count 7) [ false ↦ wrong st Reasons.Form | true ↦ data_of st (split_of s) s ]
+      | Opm ↦ Err Reasons.Form
+      | Oem ↦ elim (eqb (split_of s).count 7) [ false ↦ Err Reasons.Form | true ↦ data_of st (split_of s) s ]
     ]
 unfolding fields_of
 fields_in_lem st s f e =
     ap
     (λ (g : Form).
     elim g [
-      | Opm ↦ wrong st Reasons.Form
-      | Oem ↦ elim (eqb (split_of s).count 7) [ false ↦ wrong st Reasons.Form | true ↦ data_of st (split_of s) s ]
+      | Opm ↦ Err Reasons.Form
+      | Oem ↦ elim (eqb (split_of s).count 7) [ false ↦ Err Reasons.Form | true ↦ data_of st (split_of s) s ]
     ])
     e
 
 -- ---- a line that is right passed each test on its way
 
-module _ (st : State) (r : Reason) {x y : Step} where
-  kept : (b : Bool) → y ≡ elim b [ true ↦ x | false ↦ wrong st r ] → y.verdict ≡ Right → y ≡ x
+module _ (r : Reason) {x y : Result Step Reason} where
+  kept : (b : Bool) → y ≡ elim b [ true ↦ x | false ↦ Err r ] → IsOk y → y ≡ x
   kept true p e = p
   kept false p e = cc
 
-  spared : (b : Bool) → y ≡ elim b [ true ↦ wrong st r | false ↦ x ] → y.verdict ≡ Right → y ≡ x
+  spared : (b : Bool) → y ≡ elim b [ true ↦ Err r | false ↦ x ] → IsOk y → y ≡ x
   spared true p e = cc
   spared false p e = p
 
 module _ (st : State) (s : List ℕ) where
-  pub data_right : (f : Fields) (t : Instant) → (data_at st f t s).verdict ≡ Right → data_at st f t s ≡ seven_rows (past_data st t) f.spans
-  unfolding data_at
-  data_right f t e = kept st _ (is_timely st t) (kept st _ (are_numbers (drop 1 f.spans) s) refl e) e
-
-  pub step_right : (step_of st s).verdict ≡ Right → step_of st s ≡ elim (eqb (trim_of s).to 0) [ true ↦ no_row st | false ↦ filled_of st (trim_of s) s ]
+  pub step_right : IsOk (step_of st s) → step_of st s ≡ elim (eqb (trim_of s).to 0) [ true ↦ Ok (no_row st) | false ↦ filled_of st (trim_of s) s ]
   unfolding step_of
-  step_right e = spared st _ (ltb (odd_at s) (length s)) (spared st _ (is_long s) refl e) e
+  step_right e = spared _ (ltb (odd_at s) (length s)) (spared _ (is_long s) refl e) e
 
 -- ---- an epoch read by one who found out whether second 60 may stand
-
-pub epoch_read : (v : List ℕ) (asked may : Bool) (e : Epoch) → e ≡ epoch_of v asked → asked ≡ may → epoch_of v may ≡ e
-epoch_read v asked may e h k = sym (h ∙ ap (epoch_of v) k)
 
 -- ---- parts of a text
 
@@ -106,21 +100,70 @@ word-le s = run-le (λ b. not (is_blank b)) s
 pub trim_inside : (s : List ℕ) (p : Span) → p ≡ trim_of s → Inside p s
 trim_inside s p e = rw e (record { order = (trim_within s).0; end = (trim_within s).1 })
 
--- ---- a number and its unit, as the walk found them: n bytes to the first blank, the rest r, and its trimmed part q
+-- a part of a part
+module _ (p : Span) (s : List ℕ) (h : Inside p s) where
+  pub inside_part : (q : Span) → Inside q (part p s) → Inside (moved p.from q) s
+  inside_part q i = record { order = omega (arith, i.order); end = omega (arith, i.end, part_length p s h, h.order, h.end) }
 
-module _ (st : State) (c : ℕ) (p : Span) (s : List ℕ) (n : ℕ) (k : n ≡ word_len (part p s)) where
-  pub number_bad : is_number (take n (part p s)) ≡ false → number_of st c p s ≡ wrong st Reasons.Value
+  pub part_part : (q : Span) → Inside q (part p s) → part (moved p.from q) s ≡ part q (part p s)
+  part_part q i =
+      let m = p.to - p.from - q.from in
+      let n = q.to - q.from in
+      let room : q.to ≤ p.to - p.from = omega (arith, i.end, part_length p s h) in
+      let cut : drop q.from (part p s) ≡ take m (drop (p.from + q.from) s) =
+      ap (λ (k : ℕ). drop q.from (take k (drop p.from s))) (omega (arith, room, i.order)) ∙ drop-take q.from m (drop p.from s) ∙ ap (take m) (drop-drop q.from p.from s) in
+      let same : p.from + q.to - (p.from + q.from) ≡ n = omega arith in
+      rw (same, cut) (sym (take-take n m _ (omega (arith, room, i.order))))
+
+  pub trim_part : (v : List ℕ) (q : Span) → v ≡ part p s → q ≡ trim_of v → Inside (moved p.from q) s
+  trim_part v q e k = inside_part q (rw (← e) (trim_inside v q k))
+
+  -- its first n bytes, up to a blank, and the rest
+  pub word_within : (n : ℕ) → n ≡ word_len (part p s) → p.from + n ≤ p.to
+  word_within n e = omega (arith, e, h.order, word-le (part p s), part_length p s h)
+
+  pub word_inside : (n : ℕ) → n ≡ word_len (part p s) → Inside (record { from = p.from; to = p.from + n }) s
+  word_inside n e = record { order = omega arith; end = omega (arith, word_within n e, h.end) }
+
+  pub tail_inside : (n : ℕ) → n ≡ word_len (part p s) → Inside (record { from = p.from + n; to = p.to }) s
+  tail_inside n e = record { order = word_within n e; end = h.end }
+
+  word_part : (n : ℕ) → p.from + n ≤ p.to → part (record { from = p.from; to = p.from + n }) s ≡ take n (part p s)
+  word_part n i = let e : p.from + n - p.from ≡ n = omega arith in rw e (sym (take-take n (p.to - p.from) (drop p.from s) (omega (arith, i))))
+
+  pub tail_part : (n : ℕ) → p.from + n ≤ p.to → part (record { from = p.from + n; to = p.to }) s ≡ drop n (part p s)
+  tail_part n i =
+      let m = p.to - (p.from + n) in
+      sym (ap (λ (k : ℕ). drop n (take k (drop p.from s))) (omega (arith, i)) ∙ drop-take n m (drop p.from s) ∙ ap (take m) (drop-drop n p.from s))
+
+-- ---- a number and its unit, as the walk found them: the number is w, of the bytes v, and the unit's bytes are b
+
+module _ (p : Span) (s : List ℕ) (h : Inside p s) where
+  pub number_bytes : (w : Span) (t v : List ℕ) → w ≡ record { from = p.from; to = p.from + word_len (part p s) } → t ≡ s → v ≡ part w t → v ≡ take (word_len (part p s)) (part p s)
+  number_bytes w t v kw kt kv = kv ∙ rw (kt, kw) (word_part p s h _ (word_within p s h _ refl))
+
+  pub unit_bytes : (r u : Span) (t x b : List ℕ) → r ≡ record { from = p.from + word_len (part p s); to = p.to } → t ≡ s → u ≡ moved r.from (trim_of (part r t)) → x ≡ t → b ≡ part u x
+      → let d = drop (word_len (part p s)) (part p s) in b ≡ part (trim_of d) d
+  unit_bytes r u t x b kr kt ku kx kb =
+      let i = word_within p s h _ refl in
+      let n = word_len (part p s) in
+      let e : part r s ≡ drop n (part p s) = rw kr (tail_part p s h n i) in
+      let g : Inside r s = rw kr (tail_inside p s h n refl) in
+      kb ∙ rw (kx, ku, kt) (part_part r s g (trim_of (part r s)) (trim_inside (part r s) _ refl) ∙ ap (λ (d : List ℕ). part (trim_of d) d) e)
+
+module _ (st : State) (c : ℕ) (p : Span) (s v : List ℕ) (kv : v ≡ take (word_len (part p s)) (part p s)) where
+  pub number_bad : is_number v ≡ false → Err Reasons.Value ≡ number_of st c p s
   unfolding number_of
-  number_bad e = rw (← k, number_of) (rw e)
+  number_bad e = rw (← kv, number_of) (rw e)
 
-  module _ (r : List ℕ) (q : Span) (kr : r ≡ drop n (part p s)) (kq : q ≡ trim_of r) (e : is_number (take n (part p s)) ≡ true) where
-    pub number_unit : is_unit c (part q r) ≡ false → number_of st c p s ≡ wrong st Reasons.Unit
+  module _ (b : List ℕ) (kb : let d = drop (word_len (part p s)) (part p s) in b ≡ part (trim_of d) d) (e : is_number v ≡ true) where
+    pub number_unit : is_unit c b ≡ false → Err Reasons.Unit ≡ number_of st c p s
     unfolding number_of
-    number_unit u = rw (← k, number_of) (rw e (rw (← k) (rw (← kr, ← kq) (rw u))))
+    number_unit u = rw (← kv, number_of) (rw e (rw (← kb) (rw u)))
 
-    pub number_right : is_unit c (part q r) ≡ true → number_of st c p s ≡ one_row (past st c) c (record { from = p.from; to = p.from + n })
+    pub number_right : (w : Span) → w ≡ record { from = p.from; to = p.from + word_len (part p s) } → is_unit c b ≡ true → Ok (one_row (past st c) c w) ≡ number_of st c p s
     unfolding number_of
-    number_right u = rw (← k, number_of) (rw e (rw (← k) (rw (← kr, ← kq) (rw u (rw (← k))))))
+    number_right w kw u = rw (← kv, number_of) (rw e (rw (← kb) (rw u (rw (← kw)))))
 
 -- ---- the sides of an assignment and the fields of a data line lie in their text
 
@@ -134,11 +177,11 @@ sides_at s n x h e =
       record { order = omega (arith, v.0); end = omega (arith, v.1, length-drop (n + 1) s) },
     )
 
-pub sides_inside : (s : List ℕ) (x : Sides) → assignment_of s ≡ Assigns.Parted x → Inside x.keyword s × Inside x.value s
+pub sides_inside : (s : List ℕ) (x : Sides) → assignment_of s ≡ Some x → Inside x.keyword s × Inside x.value s
 unfolding assignment_of
 sides_inside s x = go (ltb (equals_at s) (length s)) refl
   where
-    go : (t : Bool) → ltb (equals_at s) (length s) ≡ t → elim t [ true ↦ Assigns.Parted (sides_of (equals_at s) s) | false ↦ Assigns.Other ] ≡ Assigns.Parted x
+    go : (t : Bool) → ltb (equals_at s) (length s) ≡ t → elim t [ true ↦ Some (sides_of (equals_at s) s) | false ↦ None ] ≡ Some x
         → Inside x.keyword s × Inside x.value s
     go true q e = sides_at s (equals_at s) x (ltb-true _ _ q) cc
     go false q e = let z : ◌≡◌ {A = ℕ} 0 1 = cc in absurd (omega arith)

@@ -1,24 +1,21 @@
 // One line of a message judged from its text and the state alone; no place in the feed is part of the state.
 #![tactic(auto)]
 
-ghost use Rattle.std.specs.Prelude.{◌≡◌, drop};
-ghost use Rattle.step.specs.Step.{wrong, no_row, one_row, fresh_state, past, fits_here, sixty_stands, Inside, SevenInside, Sure, is_timely, are_numbers, past_data, data_at, data_of, fields_of, past_whole, whole_of, number_of, past_time, is_early, time_of, value_of, assign_of, meta_code, meta_of, plain_of, past_comment, uncommented_of, filled_of, step_of};
+ghost use Rattle.std.specs.Prelude.{◌≡◌, ◌+◌, drop, get_or, not, find, All};
+ghost use Rattle.lines.specs.Text.{trim_of, moved, no_span};
+ghost use Rattle.values.specs.Number.{is_number};
+ghost use Rattle.step.specs.Step.{no_row, one_row, fresh_state, part, past, fits_here, sixty_stands, word_len, Inside, SevenInside, Sure, is_timely, are_numbers, past_data, data_at, data_of, fields_of, past_whole, whole_of, number_of, past_time, is_early, time_of, value_of, assign_of, meta_code, meta_of, plain_of, past_comment, uncommented_of, filled_of, step_of};
 
-use epochs::{Epoch, Instant, epoch_of, is_before};
-use grammar::{Form, Keyword, Kind};
-use lines::{Assignment, Comment, Fields, Sides, Span};
+use epochs::{Instant, epoch_of, is_before};
+use grammar::Kind;
+use lines::{Fields, Form, Sides, Span};
 use reasons::Reason;
 use words::{byte_at, is_word};
 
-#[derive(Clone, Copy)]
-pub enum Verdict {
-    Right,
-    Wrong(Reason),
-}
-
 // What judging a line needs of the lines before it: the code of the last one that is no comment and not blank (0: none; 45: a comment
 // since the data lines), whether the present TIME_SYSTEM is exactly UTC, START_TIME, the latest time given, and the last data line's epoch.
-#[derive(Clone, Copy)]
+// `last` is a number and no Option: the theorems on what may follow go by 0 as by the codes.
+#[derive(Clone, Copy, Debug, PartialEq, Eq)]
 pub struct State {
     pub form: Form,
     pub last: u16,
@@ -28,52 +25,133 @@ pub struct State {
     pub seen: Instant,
 }
 
-// A line judged: the verdict, the next state, and the spans of its rows' values within its text, with the first row's code.
-#[derive(Clone, Copy)]
+// A line that is right: the next state, and the spans of its rows' values within its text, with the first row's code; no Vec, since there is no heap.
+#[derive(Clone, Copy, Debug, PartialEq, Eq)]
 pub struct Step {
-    pub verdict: Verdict,
     pub state: State,
     pub code: u16,
     pub count: usize,
     pub spans: [Span; 7],
 }
 
-// The code of a META line, 0 where the text is none.
-#[tactic(auto, unfolding(crate::specs::Step::meta_code, words::specs::Words::bytes))]
-fn meta_code(form: Form, text: &[u8]) -> u16
-    ensures { result ≡ meta_code form text.now }
-{
-    match form {
-        Form::Opm => 0,
-        Form::Oem => {
-            if is_word(text, b"META_START") {
-                return 37;
-            }
-            if is_word(text, b"META_STOP") {
-                return 44;
-            }
-            0
+// A part of a line's text, with the text that it lies in.
+#[derive(Clone, Copy)]
+pub struct Part<'a> {
+    pub text: &'a [u8],
+    pub span: Span,
+    ghost inside: { Inside span text.now },
+}
+
+impl<'a> Part<'a> {
+    // What stands there.
+    pub fn bytes(&self) -> &'a [u8]
+        ensures { result.now ≡ part self.now.span self.now.text.now }
+    {
+        &self.text[self.span.from..self.span.to]
+    }
+
+    // Up to its first blank, and from there on.
+    #[tactic(auto, using(crate::proofs::Laws::word_within, crate::proofs::Laws::word_inside, crate::proofs::Laws::tail_inside))]
+    pub fn split(&self) -> (Part<'a>, Part<'a>)
+        ensures word { result.0.span ≡ record { from = self.now.span.from; to = self.now.span.from + word_len (part self.now.span self.now.text.now) } }
+        ensures rest { result.1.span ≡ record { from = self.now.span.from + word_len (part self.now.span self.now.text.now); to = self.now.span.to } }
+        ensures word_text { result.0.text.now ≡ self.now.text.now }
+        ensures rest_text { result.1.text.now ≡ self.now.text.now }
+    {
+        let Part { text, span } = *self;
+        let at = span.from + byte_at(self.bytes(), b' ');
+        let word = Span {
+            from: span.from,
+            to: at,
+        };
+        let rest = Span {
+            from: at,
+            to: span.to,
+        };
+        (Part { text, span: word }, Part { text, span: rest })
+    }
+
+    // Without the blanks at its ends.
+    pub fn trim(&self) -> Part<'a>
+        ensures span { result.span ≡ moved self.now.span.from (trim_of (part self.now.span self.now.text.now)) }
+        ensures text { result.text.now ≡ self.now.text.now }
+    {
+        let Part { text, span } = *self;
+        let inner = lines::trim(self.bytes());
+        Part {
+            text,
+            span: Span {
+                from: span.from + inner.from,
+                to: span.from + inner.to,
+            },
         }
     }
 }
 
-// Each of the seven fields but the first is a number.
-#[tactic(auto, using(crate::proofs::Laws::numbers_end, crate::proofs::Laws::numbers_more, crate::proofs::Laws::numbers_stop))]
-fn are_numbers(spans: [Span; 7], text: &[u8]) -> bool
-    requires { SevenInside spans text.now }
-    ensures { result ≡ are_numbers (drop 1 spans) text.now }
-{
-    let mut i = 1;
-    while i < 7 {
-        let p = spans[i];
-        let from = p.from;
-        let to = p.to;
-        if !values::is_number(&text[from..to]) {
-            return false;
+// A data line's fields, with the text that they lie in.
+#[derive(Clone, Copy)]
+pub struct DataLine<'a> {
+    pub text: &'a [u8],
+    pub fields: Fields,
+    ghost inside: { SevenInside fields.spans text.now },
+}
+
+impl<'a> DataLine<'a> {
+    // Its epoch, the first of them.
+    pub fn epoch(&self) -> Part<'a>
+        ensures span { result.span ≡ get_or self.now.fields.spans 0 no_span }
+        ensures text { result.text.now ≡ self.now.text.now }
+    {
+        Part {
+            text: self.text,
+            span: self.fields.spans[0],
         }
-        i += 1;
     }
-    true
+
+    // The first of the others that is no number.
+    #[tactic(auto, using(crate::proofs::Laws::rest_whole))]
+    pub fn wrong(&self) -> Option<Span>
+        ensures { result ≡ find (λ p. not (is_number (part p self.now.text.now))) (drop 1 self.now.fields.spans) }
+    {
+        no_number(&self.fields.spans[1..], self.text)
+    }
+
+    // Each of the others is a number.
+    fn are_numbers(&self) -> bool
+        ensures { result ≡ are_numbers (drop 1 self.now.fields.spans) self.now.text.now }
+    {
+        self.wrong().is_none()
+    }
+}
+
+// The code of a META line, where the text is one.
+#[tactic(auto, unfolding(crate::specs::Step::meta_code, words::specs::Words::bytes))]
+fn meta_code(form: Form, text: &[u8]) -> Option<u16>
+    ensures { result ≡ meta_code form text.now }
+{
+    match form {
+        Form::Opm => None,
+        Form::Oem => {
+            if is_word(text, b"META_START") {
+                return Some(37);
+            }
+            if is_word(text, b"META_STOP") {
+                return Some(44);
+            }
+            None
+        }
+    }
+}
+
+// The first of some fields that is no number.
+pub fn no_number(fields: &[Span], text: &[u8]) -> Option<Span>
+    requires { All (λ p. Inside p text.now) fields.now }
+    ensures { result ≡ find (λ p. not (is_number (part p text.now))) fields.now }
+{
+    fields
+        .iter()
+        .copied()
+        .find(|p| !values::is_number(&text[p.from..p.to]))
 }
 
 impl State {
@@ -96,25 +174,11 @@ impl State {
         }
     }
 
-    // The line offends.
-    fn wrong(self, reason: Reason) -> Step
-        ensures { result ≡ wrong self reason }
-    {
-        Step {
-            verdict: Verdict::Wrong(reason),
-            state: self,
-            code: 0,
-            count: 0,
-            spans: [Span { from: 0, to: 0 }; 7],
-        }
-    }
-
     // The line is right and has no row.
     pub fn no_row(self) -> Step
         ensures { result ≡ no_row self }
     {
         Step {
-            verdict: Verdict::Right,
             state: self,
             code: 0,
             count: 0,
@@ -129,7 +193,6 @@ impl State {
         let mut spans = [Span { from: 0, to: 0 }; 7];
         spans[0] = p;
         Step {
-            verdict: Verdict::Right,
             state: self,
             code,
             count: 1,
@@ -141,289 +204,243 @@ impl State {
     fn past(self, code: u16) -> State
         ensures { result ≡ past self code }
     {
-        let mut next = self;
-        next.last = code;
-        next
+        State { last: code, ..self }
     }
 
     // A line of this code may stand here.
     fn fits(self, code: u16) -> bool
         ensures { result ≡ fits_here self code }
     {
-        let form = self.form;
-        grammar::allows_code(grammar::next_of(form, self.last), code)
+        grammar::allows_code(grammar::next_of(self.form, self.last), code)
     }
 
     // Second 60 may stand in an epoch of this code.
     fn sixty_stands(self, code: u16) -> bool
         ensures { result ≡ sixty_stands self code }
     {
-        if code == 2 {
-            return true;
-        }
-        self.utc
+        code == 2 || self.utc
     }
 
     // The line's place in time is right: within the segment's span, and after the data line before it.
+    #[tactic(auto, unfolding(crate::specs::Step::is_timely))]
     fn is_timely(self, t: Instant) -> bool
         ensures { result ≡ is_timely self t }
     {
-        let start = self.start;
-        if is_before(t, start) {
+        if is_before(t, self.start) {
             return false;
         }
-        let latest = self.latest;
-        if is_before(latest, t) {
+        if is_before(self.latest, t) {
             return false;
         }
-        if self.last != 9 {
-            return true;
-        }
-        let seen = self.seen;
-        is_before(seen, t)
+        self.last != 9 || is_before(self.seen, t)
     }
 
     // A data line of this epoch has stood.
     fn past_data(self, t: Instant) -> State
         ensures { result ≡ past_data self t }
     {
-        let mut next = self;
-        next.last = 9;
-        next.seen = t;
-        next
+        State {
+            last: 9,
+            seen: t,
+            ..self
+        }
     }
 
     // A data line whose epoch has been read.
     #[tactic(auto, unfolding(crate::specs::Step::data_at))]
-    fn data_at(self, f: Fields, t: Instant, text: &[u8], sure: bool) -> Step
-        requires seven_inside { SevenInside f.spans text.now }
-        requires sure { Sure sure (data_at self f t text.now) }
-        ensures { result ≡ data_at self f t text.now }
+    fn data_at(self, line: &DataLine, t: Instant, sure: bool) -> Result<Step, Reason>
+        requires { Sure sure (data_at self line.now.fields t line.now.text.now) }
+        ensures { result ≡ data_at self line.now.fields t line.now.text.now }
     {
-        let spans = f.spans;
         if !sure {
-            let numbers = are_numbers(spans, text);
+            let numbers = line.are_numbers();
             let timely = self.is_timely(t);
             if !numbers {
-                return self.wrong(Reason::Value);
+                return Err(Reason::Value);
             }
             if !timely {
-                return self.wrong(Reason::TimeOrder);
+                return Err(Reason::TimeOrder);
             }
         }
-        Step {
-            verdict: Verdict::Right,
+        Ok(Step {
             state: self.past_data(t),
             code: 9,
             count: 7,
-            spans,
-        }
+            spans: line.fields.spans,
+        })
     }
 
     // A line of seven fields in an OEM.
     #[tactic(auto, unfolding(crate::specs::Step::data_of))]
-    fn data(self, f: Fields, text: &[u8], sure: bool) -> Step
-        requires seven_inside { SevenInside f.spans text.now }
-        requires sure { Sure sure (data_of self f text.now) }
-        ensures { result ≡ data_of self f text.now }
+    fn data(self, line: &DataLine, sure: bool) -> Result<Step, Reason>
+        requires { Sure sure (data_of self line.now.fields line.now.text.now) }
+        ensures { result ≡ data_of self line.now.fields line.now.text.now }
     {
         if !self.fits(9) {
-            return self.wrong(Reason::Order);
+            return Err(Reason::Order);
         }
-        let spans = f.spans;
-        let p = spans[0];
-        let from = p.from;
-        let to = p.to;
-        match epoch_of(&text[from..to], self.sixty_stands(9)) {
-            Epoch::Bad => self.wrong(Reason::Value),
-            Epoch::At(t) => self.data_at(f, t, text, sure),
-        }
+        let t = epoch_of(line.epoch().bytes(), self.sixty_stands(9)).ok_or(Reason::Value)?;
+        self.data_at(line, t, sure)
     }
 
     // A line that is no assignment: a data line in an OEM, or nothing that has a form.
     #[tactic(auto, using(crate::proofs::Laws::fields_inside), unfolding(crate::specs::Step::fields_of))]
-    fn fields(self, text: &[u8], sure: bool) -> Step
+    fn fields(self, text: &[u8], sure: bool) -> Result<Step, Reason>
         requires { Sure sure (fields_of self text.now) }
         ensures { result ≡ fields_of self text.now }
     {
-        let form = self.form;
-        match form {
-            Form::Opm => self.wrong(Reason::Form),
+        match self.form {
+            Form::Opm => Err(Reason::Form),
             Form::Oem => {
-                let f = lines::fields_of(text);
-                if f.count != 7 {
-                    return self.wrong(Reason::Form);
+                let fields = lines::fields_of(text);
+                if fields.count != 7 {
+                    return Err(Reason::Form);
                 }
-                self.data(f, text, sure)
+                self.data(&DataLine { text, fields }, sure)
             }
         }
     }
 
     // A line of this code and value has stood; of TIME_SYSTEM's the epochs after it need to know whether it is UTC.
+    #[tactic(auto, unfolding(crate::specs::Step::past_whole, words::specs::Words::bytes))]
     fn past_whole(self, code: u16, field: &[u8]) -> State
         ensures { result ≡ past_whole self code field.now }
     {
-        let mut next = self;
-        next.last = code;
         if code != 8 {
-            return next;
+            return self.past(code);
         }
-        if is_word(field, b"UTC") {
-            next.utc = true;
-            return next;
+        State {
+            last: code,
+            utc: is_word(field, b"UTC"),
+            ..self
         }
-        next.utc = false;
-        next
     }
 
     // A value that is its whole field.
-    fn whole(self, code: u16, p: Span, field: &[u8], right: bool) -> Step
+    #[tactic(auto, unfolding(crate::specs::Step::whole_of))]
+    fn whole(self, code: u16, p: Span, field: &[u8], right: bool) -> Result<Step, Reason>
         ensures { result ≡ whole_of self code p field.now right }
     {
         if !right {
-            return self.wrong(Reason::Value);
+            return Err(Reason::Value);
         }
-        self.past_whole(code, field).one_row(code, p)
+        Ok(self.past_whole(code, field).one_row(code, p))
     }
 
     // A number, which ends at the first blank, and its unit.
-    #[tactic(auto, using(crate::proofs::Laws::trim_inside, crate::proofs::Laws::number_bad))]
-    fn number(self, code: u16, p: Span, text: &[u8]) -> Step
-        requires { Inside p text.now }
-        ensures { result ≡ number_of self code p text.now }
+    fn number(self, code: u16, p: &Part) -> Result<Step, Reason>
+        ensures { result ≡ number_of self code p.now.span p.now.text.now }
     {
-        let from = p.from;
-        let to = p.to;
-        let value = &text[from..to];
-        let n = byte_at(value, 32);
-        if !values::is_number(&value[..n]) {
-            return self.wrong(Reason::Value);
+        let (number, rest) = p.split();
+        if !values::is_number(number.bytes()) {
+            return Err(Reason::Value);
         }
-        let rest = &value[n..];
-        let unit = lines::trim(rest);
-        let a = unit.from;
-        let b = unit.to;
-        if !grammar::unit_right(code, &rest[a..b]) {
-            return self.wrong(Reason::Unit);
+        if !grammar::unit_right(code, rest.trim().bytes()) {
+            return Err(Reason::Unit);
         }
-        self.past(code).one_row(code, Span { from, to: from + n })
+        Ok(self.past(code).one_row(code, number.span))
     }
 
     // A time of a segment's block that is before the latest one given.
+    #[tactic(auto, unfolding(crate::specs::Step::is_early))]
     fn is_early(self, code: u16, t: Instant) -> bool
         ensures { result ≡ is_early self code t }
     {
-        if code < 39 {
-            return false;
-        }
-        if 41 < code {
-            return false;
-        }
-        let latest = self.latest;
-        is_before(t, latest)
+        (39..=41).contains(&code) && is_before(t, self.latest)
     }
 
     // An epoch of this code has stood.
+    #[tactic(auto, unfolding(crate::specs::Step::past_time))]
     fn past_time(self, code: u16, t: Instant) -> State
         ensures { result ≡ past_time self code t }
     {
-        let mut next = self;
-        next.last = code;
-        if code == 38 {
-            next.start = t;
-            next.latest = t;
-            return next;
+        match code {
+            38 => State {
+                last: code,
+                start: t,
+                latest: t,
+                ..self
+            },
+            39..=41 => State {
+                last: code,
+                latest: t,
+                ..self
+            },
+            _ => self.past(code),
         }
-        if code < 39 {
-            return next;
-        }
-        if 41 < code {
-            return next;
-        }
-        next.latest = t;
-        next
     }
 
     // An epoch.
     #[tactic(auto, unfolding(crate::specs::Step::time_of))]
-    fn time(self, code: u16, p: Span, text: &[u8]) -> Step
-        requires { Inside p text.now }
-        ensures { result ≡ time_of self code p text.now }
+    fn time(self, code: u16, p: &Part) -> Result<Step, Reason>
+        ensures { result ≡ time_of self code p.now.span p.now.text.now }
     {
-        let from = p.from;
-        let to = p.to;
-        match epoch_of(&text[from..to], self.sixty_stands(code)) {
-            Epoch::Bad => self.wrong(Reason::Value),
-            Epoch::At(t) => {
-                if self.is_early(code, t) {
-                    return self.wrong(Reason::TimeOrder);
-                }
-                self.past_time(code, t).one_row(code, p)
-            }
+        let t = epoch_of(p.bytes(), self.sixty_stands(code)).ok_or(Reason::Value)?;
+        if self.is_early(code, t) {
+            return Err(Reason::TimeOrder);
         }
+        Ok(self.past_time(code, t).one_row(code, p.span))
     }
 
     // The value of an assignment that stands in its place.
     #[tactic(auto, unfolding(crate::specs::Step::value_of))]
-    fn value(self, code: u16, p: Span, text: &[u8]) -> Step
-        requires { Inside p text.now }
-        ensures { result ≡ value_of self code p text.now }
+    fn value(self, code: u16, p: &Part) -> Result<Step, Reason>
+        ensures { result ≡ value_of self code p.now.span p.now.text.now }
     {
-        let from = p.from;
-        let to = p.to;
-        let field = &text[from..to];
+        let field = p.bytes();
         match grammar::kind_of(code) {
-            Kind::Version => self.whole(code, p, field, values::is_version(field)),
-            Kind::Text => self.whole(code, p, field, values::is_text(field)),
-            Kind::Integer => self.whole(code, p, field, values::is_integer(field)),
-            Kind::Number => self.number(code, p, text),
-            Kind::Epoch => self.time(code, p, text),
-            Kind::Nothing => self.wrong(Reason::Value),
+            Some(Kind::Version) => self.whole(code, p.span, field, values::is_version(field)),
+            Some(Kind::Text) => self.whole(code, p.span, field, values::is_text(field)),
+            Some(Kind::Integer) => self.whole(code, p.span, field, values::is_integer(field)),
+            Some(Kind::Number) => self.number(code, p),
+            Some(Kind::Epoch) => self.time(code, p),
+            None => Err(Reason::Value),
         }
     }
 
     // An assignment, its sides found.
     #[tactic(auto, unfolding(crate::specs::Step::assign_of))]
-    fn assign(self, x: Sides, text: &[u8]) -> Step
+    fn assign(self, x: Sides, text: &[u8]) -> Result<Step, Reason>
         requires { Inside x.keyword text.now × Inside x.value text.now }
         ensures { result ≡ assign_of self x text.now }
     {
-        let keyword = x.keyword;
-        let value = x.value;
-        let from = keyword.from;
-        let to = keyword.to;
-        let form = self.form;
-        match grammar::keyword_of(form, &text[from..to]) {
-            Keyword::Unknown => self.wrong(Reason::Keyword),
-            Keyword::Code(code) => {
-                if !self.fits(code) {
-                    return self.wrong(Reason::Order);
-                }
-                self.value(code, value, text)
-            }
+        let keyword = Part {
+            text,
+            span: x.keyword,
+        };
+        let code = grammar::keyword_of(self.form, keyword.bytes()).ok_or(Reason::Keyword)?;
+        if !self.fits(code) {
+            return Err(Reason::Order);
         }
+        self.value(
+            code,
+            &Part {
+                text,
+                span: x.value,
+            },
+        )
     }
 
     // A META line, whose keyword ends at n.
     #[tactic(auto, unfolding(crate::specs::Step::meta_of))]
-    fn meta(self, code: u16, n: usize) -> Step
+    fn meta(self, code: u16, n: usize) -> Result<Step, Reason>
         ensures { result ≡ meta_of self code n }
     {
         if !self.fits(code) {
-            return self.wrong(Reason::Order);
+            return Err(Reason::Order);
         }
-        self.past(code).one_row(code, Span { from: n, to: n })
+        Ok(self.past(code).one_row(code, Span { from: n, to: n }))
     }
 
     // A line that is neither comment nor META line.
     #[tactic(auto, using(crate::proofs::Laws::sides_inside), unfolding(crate::specs::Step::plain_of))]
-    fn plain(self, text: &[u8], sure: bool) -> Step
+    fn plain(self, text: &[u8], sure: bool) -> Result<Step, Reason>
         requires { Sure sure (plain_of self text.now) }
         ensures { result ≡ plain_of self text.now }
     {
         match lines::assignment_of(text) {
-            Assignment::Parted(x) => self.assign(x, text),
-            Assignment::Other => self.fields(text, sure),
+            Some(x) => self.assign(x, text),
+            None => self.fields(text, sure),
         }
     }
 
@@ -432,8 +449,7 @@ impl State {
     fn past_comment(self) -> State
         ensures { result ≡ past_comment self }
     {
-        let form = self.form;
-        match form {
+        match self.form {
             Form::Opm => self,
             Form::Oem => {
                 if self.last != 9 {
@@ -446,52 +462,47 @@ impl State {
 
     // A line that is no comment; its trimmed part is t.
     #[tactic(auto, unfolding(crate::specs::Step::uncommented_of))]
-    fn uncommented(self, t: Span, text: &[u8], sure: bool) -> Step
-        requires inside { Inside t text.now }
-        requires sure { Sure sure (uncommented_of self t text.now) }
-        ensures { result ≡ uncommented_of self t text.now }
+    fn uncommented(self, t: &Part, sure: bool) -> Result<Step, Reason>
+        requires { Sure sure (uncommented_of self t.now.span t.now.text.now) }
+        ensures { result ≡ uncommented_of self t.now.span t.now.text.now }
     {
-        let from = t.from;
-        let to = t.to;
-        let form = self.form;
-        let code = meta_code(form, &text[from..to]);
-        if code == 0 {
-            return self.plain(text, sure);
+        match meta_code(self.form, t.bytes()) {
+            Some(code) => self.meta(code, t.span.to),
+            None => self.plain(t.text, sure),
         }
-        self.meta(code, to)
     }
 
     // A line that is not blank; its trimmed part is t.
     #[tactic(auto, unfolding(crate::specs::Step::filled_of))]
-    fn filled(self, t: Span, text: &[u8], sure: bool) -> Step
-        requires inside { Inside t text.now }
-        requires sure { Sure sure (filled_of self t text.now) }
-        ensures { result ≡ filled_of self t text.now }
+    fn filled(self, t: &Part, sure: bool) -> Result<Step, Reason>
+        requires { Sure sure (filled_of self t.now.span t.now.text.now) }
+        ensures { result ≡ filled_of self t.now.span t.now.text.now }
     {
-        match lines::comment_of(text) {
-            Comment::Value(p) => self.past_comment().one_row(45, p),
-            Comment::Other => self.uncommented(t, text, sure),
+        match lines::comment_of(t.text) {
+            Some(p) => Ok(self.past_comment().one_row(45, p)),
+            None => self.uncommented(t, sure),
         }
     }
 
     // One line judged; where whoever asks is sure that it is right, only what its rows and the next state need is looked at again.
+    // `sure` is what the caller promises, and this promise names it.
     #[tactic(auto, using(crate::proofs::Laws::trim_inside, crate::proofs::Laws::step_right), unfolding(crate::specs::Step::step_of))]
-    pub fn step(self, text: &[u8], sure: bool) -> Step
+    pub fn step(self, text: &[u8], sure: bool) -> Result<Step, Reason>
         requires { Sure sure (step_of self text.now) }
         ensures { result ≡ step_of self text.now }
     {
         if !sure {
             if 254 < text.len() {
-                return self.wrong(Reason::Long);
+                return Err(Reason::Long);
             }
             if lines::odd_at(text) < text.len() {
-                return self.wrong(Reason::Byte);
+                return Err(Reason::Byte);
             }
         }
-        let t = lines::trim(text);
-        if t.to == 0 {
-            return self.no_row();
+        let span = lines::trim(text);
+        if span.to == 0 {
+            return Ok(self.no_row());
         }
-        self.filled(t, text, sure)
+        self.filled(&Part { text, span }, sure)
     }
 }

@@ -1,21 +1,23 @@
 -- Laws of a table's entries put into another table, over both widths, of the search for an entry above 65,535, and of the answers.
 -- Assumes nothing.
-use mathlib.Core.Path.{◌≡◌, refl, ◌∙◌}
+use mathlib.Core.Path.{◌≡◌, refl, sym, ◌∙◌}
 use mathlib.Core.List.{List, ◌++◌, append_assoc}
-use mathlib.Core.Bool.{true, false}
+use mathlib.Core.Bool.{Bool, true, false, ◌||◌}
 use Prim.Native.Nat.{ℕ, zero, suc, ◌+◌, ◌-◌, ◌*◌, ◌≤◌, ◌<◌}
 use native.Mathlib.Numerals.{add-one}
 use native.Mathlib.Nat.{mul-zero, mul-suc, mul-le-mul_left, mul-div-le}
 use native.Mathlib.Omega.{arith}
-use lib.Dec.{eqb}
+use lib.Dec.{eqb, ltb}
+use Rattle.std.specs.List.{IsAnyAnswer, list_any, range_with_len}
+use Rattle.std.proofs.lemmas.List.Folds.{list_any_at, list_any_none}
 use lib.ListN.{length, drop, length-append, length-drop}
 use lib.Seq.{sets, sets-eq, length-sets, drop-drop, take-append_seam, drop-append-add}
 use borrow.Author.Tests.{lt-ltb, le-ltb}
 use Rattle.reasons.specs.declared.Reason.TheVariants as Reasons
 use Rattle.tables.specs.Table.{host_width, recorded_width, entry_bytes, entry_at}
 use Rattle.tables.specs.Widths.{entries_in, rewritten, copied, some_wide, widen_of, narrow_of, made_by, widened, narrowed}
-use Rattle.tables.specs.declared.Resized.TheVariants.{Done, Refused}
 use Rattle.tables.proofs.Entries.{bytes-length}
+use Rattle.std.specs.Prelude.{Ok, Err}
 
 -- stores behind some bytes
 sets_behind : (a s e : List ℕ) → length e ≤ length s → sets (a ++ s) (length a) e ≡ a ++ (e ++ drop (length e) s)
@@ -67,7 +69,25 @@ module _ (v w : ℕ) (t u₀ : List ℕ) where
           size = rw (m, length-sets) c.size;
         }
 
--- ---- an entry above 65,535, looked for from the i-th of k entries on
+-- ---- an entry above 65,535, looked for by std's search
+
+abbrev pub is_wide : List ℕ → ℕ → Bool
+is_wide u i = ltb 65535 (entry_at host_width u i)
+
+wide_any : (u : List ℕ) (i k : ℕ) → list_any (is_wide u) (range_with_len i k) ≡ some_wide u i k
+unfolding some_wide
+wide_any u i zero = refl
+wide_any u i (suc k) = rw (wide_any u (i + 1) k) (either (is_wide u i) _)
+  where
+    either : (b c : Bool) → (b || c) ≡ elim b [ true ↦ true | false ↦ c ]
+    either true c = refl
+    either false c = refl
+
+pub wide_found : (u : List ℕ) (k : ℕ) (b : Bool) → IsAnyAnswer (λ i a. is_wide u i ≡ a) (range_with_len 0 k) b → b ≡ some_wide u 0 k
+wide_found u k true m = sym (list_any_at (is_wide u) (range_with_len 0 k) m.0 0 m.1 (m.2 0)) ∙ wide_any u 0 k
+wide_found u k false m = sym (list_any_none (is_wide u) (range_with_len 0 k) (λ j d h. m j d (omega arith) h)) ∙ wide_any u 0 k
+
+-- ---- the same, step by step
 
 module _ (u : List ℕ) (i k : ℕ) where
   pub wide_here : i < k → 65535 < entry_at host_width u i → some_wide u i (k - i) ≡ true
@@ -90,24 +110,24 @@ module _ (u : List ℕ) (i k : ℕ) where
 
 module _ (t u : List ℕ) where
   module _ (e : eqb (entries_in recorded_width t) (entries_in host_width u) ≡ false) where
-    pub widen_unlike : (Refused Reasons.NoRoom ≡ widen_of t u) × (u ≡ widened t u)
+    pub widen_unlike : (Err Reasons.NoRoom ≡ widen_of t u) × (u ≡ widened t u)
     unfolding widen_of made_by
     widen_unlike = (rw (e, widen_of), rw (e, widen_of))
 
-    pub narrow_unlike : (Refused Reasons.NoRoom ≡ narrow_of u t) × (t ≡ narrowed u t)
+    pub narrow_unlike : (Err Reasons.NoRoom ≡ narrow_of u t) × (t ≡ narrowed u t)
     unfolding narrow_of made_by
     narrow_unlike = (rw (e, narrow_of), rw (e, narrow_of))
 
   module _ (e : eqb (entries_in recorded_width t) (entries_in host_width u) ≡ true) where
-    pub widen_done : (x : List ℕ) → x ≡ copied recorded_width host_width t u → (Done ≡ widen_of t u) × (x ≡ widened t u)
+    pub widen_done : (x : List ℕ) → x ≡ copied recorded_width host_width t u → (Ok tt ≡ widen_of t u) × (x ≡ widened t u)
     unfolding widen_of made_by
     widen_done x q = (rw (e, widen_of), rw (e, widen_of) q)
 
-    pub narrow_wide : true ≡ some_wide u 0 (entries_in host_width u) → (Refused Reasons.Wide ≡ narrow_of u t) × (t ≡ narrowed u t)
+    pub narrow_wide : true ≡ some_wide u 0 (entries_in host_width u) → (Err Reasons.Wide ≡ narrow_of u t) × (t ≡ narrowed u t)
     unfolding narrow_of made_by
     narrow_wide q = (rw (e, narrow_of) (rw (← q)), rw (e, narrow_of) (rw (← q)))
 
     pub narrow_done : false ≡ some_wide u 0 (entries_in host_width u) → (x : List ℕ) → x ≡ copied host_width recorded_width u t
-        → (Done ≡ narrow_of u t) × (x ≡ narrowed u t)
+        → (Ok tt ≡ narrow_of u t) × (x ≡ narrowed u t)
     unfolding narrow_of made_by
     narrow_done q x r = (rw (e, narrow_of) (rw (← q)), rw (e, narrow_of) (rw (← q) r))

@@ -1,10 +1,9 @@
 -- Recorded tables made wide and narrow again, by document 02, (vi): "Consoles have recorded old 16-bit tables: widen them so that each row reads as it did."
 -- Assumes nothing.
-use Rattle.std.specs.Prelude.{ℕ, zero, suc, ◌+◌, ◌*◌, ◌/◌, List, [], ◌++◌, Bool, true, false, eqb, ltb, length, drop}
+use Rattle.std.specs.Prelude.{ℕ, zero, suc, ◌+◌, ◌*◌, ◌/◌, List, [], ◌++◌, Bool, true, false, eqb, ltb, length, drop, Result, Ok, Err, ⊤}
 use Rattle.reasons.specs.declared.Reason.TheVariants as Reasons
 use Rattle.tables.specs.Table.{host_width, recorded_width, entry_bytes, entry_at}
-use Rattle.tables.specs.declared.Resized.{Resized}
-use Rattle.tables.specs.declared.Resized.TheVariants.{Done, Refused}
+use Rattle.reasons.specs.declared.Reason.{Reason}
 
 -- how many entries a table of a width has; spare bytes at its end make none
 abbrev pub entries_in : ℕ → List ℕ → ℕ
@@ -25,21 +24,21 @@ some_wide u i zero = false
 some_wide u i (suc k) = elim (ltb 65535 (entry_at host_width u i)) [ true ↦ true | false ↦ some_wide u (i + 1) k ]
 
 -- "Two tables of unequal length are NO_ROOM, checked first.": the lengths are in entries
-unfoldable pub widen_of : List ℕ → List ℕ → Resized
-widen_of t u = elim (eqb (entries_in recorded_width t) (entries_in host_width u)) [ false ↦ Refused Reasons.NoRoom | true ↦ Done ]
+unfoldable pub widen_of : List ℕ → List ℕ → Result ⊤ Reason
+widen_of t u = elim (eqb (entries_in recorded_width t) (entries_in host_width u)) [ false ↦ Err Reasons.NoRoom | true ↦ Ok tt ]
 
 -- "Narrowing back is refused with 19 WIDE exactly if some number is above 65,535"
-unfoldable pub narrow_of : List ℕ → List ℕ → Resized
+unfoldable pub narrow_of : List ℕ → List ℕ → Result ⊤ Reason
 narrow_of u t =
     elim (eqb (entries_in recorded_width t) (entries_in host_width u)) [
-      | false ↦ Refused Reasons.NoRoom
-      | true ↦ elim (some_wide u 0 (entries_in host_width u)) [ true ↦ Refused Reasons.Wide | false ↦ Done ]
+      | false ↦ Err Reasons.NoRoom
+      | true ↦ elim (some_wide u 0 (entries_in host_width u)) [ true ↦ Err Reasons.Wide | false ↦ Ok tt ]
     ]
 
 -- the table that was to be made, by the answer; a refusal "changes nothing"
-unfoldable pub made_by : Resized → List ℕ → List ℕ → List ℕ
-made_by (Refused r) made kept = kept
-made_by Done made kept = made
+unfoldable pub made_by : Result ⊤ Reason → List ℕ → List ℕ → List ℕ
+made_by (Err r) made kept = kept
+made_by (Ok tt) made kept = made
 
 abbrev pub widened : List ℕ → List ℕ → List ℕ
 widened t u = made_by (widen_of t u) (copied recorded_width host_width t u) u

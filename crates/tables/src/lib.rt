@@ -10,55 +10,38 @@ ghost use Rattle.tables.specs.Widths.{entries_in, copied, some_wide, widen_of, w
 use judge::Row;
 use reasons::Reason;
 
-// A row of the table, or why it is not spoken.
-#[derive(Clone, Copy)]
-pub enum Heard {
-    Spoken(Row),
-    Silent(Reason),
-}
-
-// A table made at the other width, or why not.
-#[derive(Clone, Copy)]
-pub enum Resized {
-    Done,
-    Refused(Reason),
-}
-
 // A row's five entries, four bytes each.
 pub const ROW_BYTES: usize = 20;
 
-// One entry put in its place: four bytes.
-fn put_entry(table: &mut [u8], i: usize, n: u32)
-    requires { 4 * i + 3 < length table.old }
-    ensures { table.new ≡ sets table.old (4 * i) (entry_bytes host_width n) }
+// An entry put in its place, at a width.
+#[tactic(auto, using(crate::proofs::Entries::entry_put))]
+fn put_entry<const WIDTH: usize>(table: &mut [u8], i: usize, n: u32)
+    requires width { WIDTH ≤ 4 }
+    requires place { WIDTH * i + WIDTH ≤ length table.old }
+    ensures { table.new ≡ sets table.old (WIDTH * i) (entry_bytes WIDTH n) }
 {
-    table[4 * i] = (n % 256) as u8;
-    table[4 * i + 1] = (n / 256 % 256) as u8;
-    table[4 * i + 2] = (n / 256 / 256 % 256) as u8;
-    table[4 * i + 3] = (n / 256 / 256 / 256 % 256) as u8;
+    let place = WIDTH * i;
+    table[place..place + WIDTH].copy_from_slice(&n.to_le_bytes()[..WIDTH]);
 }
 
-// The number of four bytes, the low byte first.
-fn number_of(a: u8, b: u8, c: u8, d: u8) -> u32
-    ensures { result ≡ a + 256 * (b + 256 * (c + 256 * d)) }
+// An entry read, at a width.
+#[tactic(auto, using(crate::proofs::Entries::read_more, crate::proofs::Entries::from_four))]
+fn get_entry<const WIDTH: usize>(table: &[u8], i: usize) -> u32
+    requires width { WIDTH ≤ 4 }
+    requires place { WIDTH * i + WIDTH ≤ length table.now }
+    ensures { result ≡ entry_at WIDTH table.now i }
 {
-    a as u32 + 256 * (b as u32 + 256 * (c as u32 + 256 * (d as u32)))
-}
-
-// One entry read.
-fn get_entry(table: &[u8], i: usize) -> u32
-    requires { 4 * i + 3 < length table.now }
-    ensures { result ≡ entry_at host_width table.now i }
-{
-    number_of(
-        table[4 * i],
-        table[4 * i + 1],
-        table[4 * i + 2],
-        table[4 * i + 3],
-    )
+    let place = WIDTH * i;
+    let mut bytes = [0; 4];
+    // Byte by byte: with copy_from_slice a row is read in 18 instructions more.
+    for k in 0..WIDTH {
+        bytes[k] = table[place + k];
+    }
+    u32::from_le_bytes(bytes)
 }
 
 // One row put in its place, where it is wholly in the table.
+#[tactic(auto, unfolding(crate::specs::Table::put_row), using(crate::proofs::Tables::row_stored))]
 pub fn put_row(table: &mut [u8], n: u32, row: Row)
     ensures { table.new ≡ put_row n row table.old }
 {
@@ -66,56 +49,42 @@ pub fn put_row(table: &mut [u8], n: u32, row: Row)
     if table.len() < ROW_BYTES * (i + 1) {
         return;
     }
-    put_entry(table, 5 * i, row.code);
-    put_entry(table, 5 * i + 1, row.group);
-    put_entry(table, 5 * i + 2, row.line);
-    put_entry(table, 5 * i + 3, row.start);
-    put_entry(table, 5 * i + 4, row.length);
+    // A line a field, as in get_row: an array and a loop would not say plainer which entry is which.
+    put_entry::<4>(table, 5 * i, row.code);
+    put_entry::<4>(table, 5 * i + 1, row.group);
+    put_entry::<4>(table, 5 * i + 2, row.line);
+    put_entry::<4>(table, 5 * i + 3, row.start);
+    put_entry::<4>(table, 5 * i + 4, row.length);
 }
 
 // One row read.
+#[tactic(auto, unfolding(crate::specs::Table::row_at))]
 fn get_row(table: &[u8], n: usize) -> Row
     requires { 20 * n + 20 ≤ length table.now }
     ensures { result ≡ row_at host_width table.now n }
 {
     Row {
-        code: get_entry(table, 5 * n),
-        group: get_entry(table, 5 * n + 1),
-        line: get_entry(table, 5 * n + 2),
-        start: get_entry(table, 5 * n + 3),
-        length: get_entry(table, 5 * n + 4),
+        code: get_entry::<4>(table, 5 * n),
+        group: get_entry::<4>(table, 5 * n + 1),
+        line: get_entry::<4>(table, 5 * n + 2),
+        start: get_entry::<4>(table, 5 * n + 3),
+        length: get_entry::<4>(table, 5 * n + 4),
     }
 }
 
 // The row at a row number, if it lies in the table and its span in the feed.
-pub fn row_heard(n: u32, feed: &[u8], table: &[u8]) -> Heard
+#[tactic(auto, unfolding(crate::specs::Hearing::row_heard, crate::specs::Hearing::span_of))]
+pub fn row_heard(n: u32, feed: &[u8], table: &[u8]) -> Result<Row, Reason>
     ensures { result ≡ row_heard host_width n feed.now table.now }
 {
     if table.len() < ROW_BYTES * (n as usize + 1) {
-        return Heard::Silent(Reason::Astray);
+        return Err(Reason::Astray);
     }
     let row = get_row(table, n as usize);
     if feed.len() < row.start as usize + row.length as usize {
-        return Heard::Silent(Reason::Astray);
+        return Err(Reason::Astray);
     }
-    Heard::Spoken(row)
-}
-
-// One entry of a recorded table put in its place: two bytes.
-fn put_narrow(table: &mut [u8], i: usize, n: u32)
-    requires { 2 * i + 1 < length table.old }
-    ensures { table.new ≡ sets table.old (2 * i) (entry_bytes recorded_width n) }
-{
-    table[2 * i] = (n % 256) as u8;
-    table[2 * i + 1] = (n / 256 % 256) as u8;
-}
-
-// One entry of a recorded table read.
-fn get_narrow(table: &[u8], i: usize) -> u32
-    requires { 2 * i + 1 < length table.now }
-    ensures { result ≡ entry_at recorded_width table.now i }
-{
-    number_of(table[2 * i], table[2 * i + 1], 0, 0)
+    Ok(row)
 }
 
 // Whether two tables of so many bytes have as many entries; spare bytes make none.
@@ -126,70 +95,50 @@ fn same_entries(narrow_bytes: usize, wide_bytes: usize) -> bool
 }
 
 // Whether an entry does not fit two bytes; each is looked at, in a row or not.
-#[tactic(auto, using(crate::proofs::Copies::wide_seen))]
 fn any_wide(table: &[u8]) -> bool
     ensures { result ≡ some_wide table.now 0 (entries_in host_width table.now) }
 {
-    let end = table.len() / 4 * 4; // without the spare bytes
-    let mut i = 0;
-    while 4 * i < end {
-        if 65535 < get_entry(table, i) {
-            return true;
-        }
-        i += 1;
-    }
-    false
+    (0..table.len() / 4).any(|i| 65535 < get_entry::<4>(table, i))
 }
 
-// Every entry of a recorded table put into a table of four bytes an entry.
-fn widen_entries(narrow: &[u8], wide: &mut [u8])
-    requires { entries_in recorded_width narrow.now ≡ entries_in host_width wide.old }
-    ensures { wide.new ≡ copied recorded_width host_width narrow.now wide.old }
+// Every entry of a table put into one of another width.
+#[tactic(auto, using(crate::proofs::Copies::copy_none, crate::proofs::Copies::copy_next))]
+fn copy_entries<const FROM: usize, const TO: usize>(from: &[u8], to: &mut [u8])
+    requires from { (0 < FROM) × (FROM ≤ 4) }
+    requires to { TO ≤ 4 }
+    requires alike { entries_in FROM from.now ≡ entries_in TO to.old }
+    ensures { to.new ≡ copied FROM TO from.now to.old }
 {
-    let count = narrow.len() / 2;
-    let mut i = 0;
-    while i < count {
-        put_entry(wide, i, get_narrow(narrow, i));
-        i += 1;
-    }
-}
-
-// Every entry of a table put into a recorded one of two bytes an entry.
-fn narrow_entries(wide: &[u8], narrow: &mut [u8])
-    requires { entries_in recorded_width narrow.old ≡ entries_in host_width wide.now }
-    ensures { narrow.new ≡ copied host_width recorded_width wide.now narrow.old }
-{
-    let count = wide.len() / 4;
-    let mut i = 0;
-    while i < count {
-        put_narrow(narrow, i, get_entry(wide, i));
-        i += 1;
+    for i in 0..from.len() / FROM {
+        put_entry::<TO>(to, i, get_entry::<FROM>(from, i));
     }
 }
 
 // A recorded table of two bytes an entry made one of four, in which each row reads as it did.
-pub fn widen(narrow: &[u8], wide: &mut [u8]) -> Resized
+#[tactic(auto, unfolding(crate::specs::Widths::widen_of, crate::specs::Widths::made_by))]
+pub fn widen(narrow: &[u8], wide: &mut [u8]) -> Result<(), Reason>
     ensures answer { result ≡ widen_of narrow.now wide.old }
     ensures table { wide.new ≡ widened narrow.now wide.old }
 {
     if !same_entries(narrow.len(), wide.len()) {
-        return Resized::Refused(Reason::NoRoom);
+        return Err(Reason::NoRoom);
     }
-    widen_entries(narrow, wide);
-    Resized::Done
+    copy_entries::<2, 4>(narrow, wide);
+    Ok(())
 }
 
 // A table made a recorded one of two bytes an entry, if every entry fits.
-pub fn narrow(wide: &[u8], narrow: &mut [u8]) -> Resized
+#[tactic(auto, unfolding(crate::specs::Widths::narrow_of, crate::specs::Widths::made_by))]
+pub fn narrow(wide: &[u8], narrow: &mut [u8]) -> Result<(), Reason>
     ensures answer { result ≡ narrow_of wide.now narrow.old }
     ensures table { narrow.new ≡ narrowed wide.now narrow.old }
 {
     if !same_entries(narrow.len(), wide.len()) {
-        return Resized::Refused(Reason::NoRoom);
+        return Err(Reason::NoRoom);
     }
     if any_wide(wide) {
-        return Resized::Refused(Reason::Wide);
+        return Err(Reason::Wide);
     }
-    narrow_entries(wide, narrow);
-    Resized::Done
+    copy_entries::<4, 2>(wide, narrow);
+    Ok(())
 }

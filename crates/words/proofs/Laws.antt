@@ -2,15 +2,21 @@
 -- Assumes nothing.
 use mathlib.Core.Path.{◌≡◌, refl, sym, ap, ap₂, ◌∙◌}
 use mathlib.Core.List.{List, [], ◌∷◌, ◌++◌}
-use mathlib.Core.Bool.{Bool, true, false, ◌&&◌, and-true, and-false, and-eq-true_iff, false≢true, true≢false}
-use Prim.Native.Nat.{ℕ, zero, suc, ◌+◌, ◌-◌, ◌*◌, ◌/◌, ◌≤◌, ◌<◌, suc-le-suc}
-use native.Mathlib.Nat.{suc-ne-zero, div-mul-le_self, div-eq_of_lt-le}
+use mathlib.Core.Bool.{Bool, true, false, ◌&&◌, and-true, and-eq-true_iff, false≢true, true≢false}
+use Prim.Native.Nat.{ℕ, zero, suc, ◌+◌, ◌-◌, ◌*◌, ◌/◌, ◌≤◌, ◌<◌, min, max, suc-le-suc}
+use native.Mathlib.Nat.{div-mul-le_self}
 use native.Mathlib.Numerals.{add-one}
 use native.Mathlib.Omega.{arith}
-use lib.Dec.{eqb}
+use lib.Dec.{eqb, eqb-suc-zero, eqb-zero-suc, eqb-suc-suc}
 use lib.ListN.{length, get_or, set, take, drop, length-drop, drop_of_length-le}
 use lib.Seq.{drop-cons, drop-drop, take_all, sets}
-use borrow.Author.Tests.{eqb-true, ne_eqb}
+use borrow.Author.Tests.{eqb-true, eq-eqb, ne_eqb}
+use Rattle.std.specs.Prelude.{cond}
+use Rattle.std.specs.List.{prefix_len, take_while, starts_with}
+use Rattle.std.specs.Simd.{first_chunks}
+use Rattle.std.specs.Cmp.Lexicographic.{pointwise}
+use Rattle.std.proofs.lemmas.List.Folds.{length-prefix_len}
+use Rattle.std.proofs.lemmas.List.{drop_min}
 use Rattle.words.specs.Words.{agrees, begins, run, every, Each, blocks_of, is_word}
 
 -- ---- a run of bytes that pass a test, seen from a place in a list
@@ -46,23 +52,10 @@ module _ (p : ℕ → Bool) (s : List ℕ) (i n : ℕ) where
   pub walk_stop : n ≡ i + run p (drop i s) → i < length s → p (get_or s i 0) ≡ false → i ≡ n
   walk_stop q h e = omega (arith, run_stop p s i h e)
 
-  pub walk_end : n ≡ i + run p (drop i s) → length s ≤ i → i ≡ n
-  walk_end q h = omega (arith, run_end p s i h)
-
--- ---- a walk to the end that keeps whether every byte so far passed: that and what is left make w, what the whole was
-
-module _ (p : ℕ → Bool) (s : List ℕ) (i : ℕ) (w kept : Bool) (q : w ≡ kept && every p (drop i s)) where
-  pub all_more : i < length s → p (get_or s i 0) ≡ true → w ≡ kept && every p (drop (i + 1) s)
-  unfolding every
-  all_more h e = q ∙ rw (add-one i, drop-cons s i 0 h, e)
-
-  pub all_stop : i < length s → p (get_or s i 0) ≡ false → w ≡ false
-  unfolding every
-  all_stop h e = q ∙ rw (drop-cons s i 0 h, e, and-false)
-
-  pub all_end : length s ≤ i → kept ≡ w
-  unfolding every
-  all_end h = sym (q ∙ rw (drop_of_length-le s h, and-true))
+-- the walk ended at the text's end, or it began past it
+pub walk_over : (p : ℕ → Bool) (s : List ℕ) (from i : ℕ) → from + run p (drop from s) ≡ i + run p (drop i s) → length s ≤ i → (from ≤ length s → i ≤ length s)
+    → max from (length s) ≡ from + run p (drop from s)
+walk_over p s from i q h k = grind (arith, q, run_end p s i h, run_end p s from, k)
 
 -- ---- a walk along a run by whole blocks
 
@@ -89,39 +82,41 @@ run-some p (b ∷ s) (suc n) e = go (p b) e (run-some p s n)
     go true q g = omega (arith, g q)
     go false q g = omega arith
 
--- k blocks passed, from one place to another
-pub record Blocks (p : ℕ → Bool) (s : List ℕ) (from i : ℕ) : Type 0 where
-  pub k : ℕ
-  pub place : i ≡ from + k * 16
-  pub left : run p (drop from s) ≡ k * 16 + run p (drop i s)
+-- ---- our words beside std's
 
-module _ (p : ℕ → Bool) (s : List ℕ) (from : ℕ) where
-  pub blocks_none : Blocks p s from from
-  blocks_none = record { k = 0; place = omega arith; left = omega arith }
+pub prefix_is : (p : ℕ → Bool) (s : List ℕ) → prefix_len p s ≡ run p s
+unfolding run
+prefix_is p [] = refl
+prefix_is p (b ∷ s) = go (p b) (prefix_is p s)
+  where
+    go : (t : Bool) → prefix_len p s ≡ run p s → cond t (1 + prefix_len p s) 0 ≡ elim t [ true ↦ run p s + 1 | false ↦ 0 ]
+    go true e = omega (arith, e)
+    go false e = refl
 
-  module _ (i : ℕ) (w : Blocks p s from i) where
-    pub blocks_more : i + 16 ≤ length s → every p (take (i + 16 - i) (drop i s)) ≡ true → Blocks p s from (i + 16)
-    blocks_more h e =
-        let n : i + 16 - i ≡ 16 = omega arith in
-        let r = run-all p (drop i s) 16 (omega (arith, length-drop i s)) (rw n at e) in
-        record { k = w.k + 1; place = omega (arith, w.place); left = omega (arith, w.left, r, ap (run p) (drop-drop 16 i s)) }
+-- one byte more, on a walk that has no way out
+pub every-push : (p : ℕ → Bool) (s : List ℕ) (b : ℕ) (kept now : Bool) → kept ≡ every p s → now ≡ kept && p b → now ≡ every p (s ++ (b ∷ []))
+unfolding every
+every-push p [] b kept now e q = q ∙ ap (λ (t : Bool). t && p b) e ∙ sym (and-true (p b))
+every-push p (x ∷ s) b kept now e q = q ∙ ap (λ (t : Bool). t && p b) e ∙ go (p x) ∙ ap (λ (t : Bool). p x && t) (every-push p s b (every p s) (every p s && p b) refl refl)
+  where
+    go : (t : Bool) → (t && every p s) && p b ≡ t && (every p s && p b)
+    go true = refl
+    go false = refl
 
-    blocks_over : run p (drop i s) < 16 → i ≡ from + blocks_of (run p (drop from s))
-    blocks_over h =
-        let d : run p (drop from s) / 16 ≡ w.k = div-eq_of_lt-le 16 (omega (arith, w.left)) (omega (arith, w.left)) in
-        omega (arith, w.place, d)
+-- the whole blocks at the front that pass
+chunks_is : (p : ℕ → Bool) (n : ℕ) (s : List ℕ) → n * 16 ≤ length s → length s < n * 16 + 16 → prefix_len (every p) (first_chunks 16 n s) ≡ run p s / 16
+chunks_is p zero s h k = omega (arith, run-le p s)
+chunks_is p (suc n) s h k =
+    let l : length (drop 16 s) ≡ length s - 16 = length-drop 16 s in
+    go (every p (take 16 s)) refl (chunks_is p n (drop 16 s) (omega arith) (omega arith))
+  where
+    go : (t : Bool) → every p (take 16 s) ≡ t → prefix_len (every p) (first_chunks 16 n (drop 16 s)) ≡ run p (drop 16 s) / 16
+        → cond t (1 + prefix_len (every p) (first_chunks 16 n (drop 16 s))) 0 ≡ run p s / 16
+    go true e q = omega (arith, run-all p s 16 (omega arith) e, q)
+    go false e q = omega (arith, run-some p s 16 e)
 
-    pub blocks_stop : every p (take (i + 16 - i) (drop i s)) ≡ false → i ≡ from + blocks_of (run p (drop from s))
-    blocks_stop e =
-        let n : i + 16 - i ≡ 16 = omega arith in
-        blocks_over (run-some p (drop i s) 16 (rw n at e))
-
-    pub blocks_end : length s < i + 16 → i ≡ from + blocks_of (run p (drop from s))
-    blocks_end h = blocks_over (omega (arith, run-le p (drop i s), length-drop i s))
-
--- a block, as it was looked at, has a byte that doesn't pass
-pub run_few : (p : ℕ → Bool) (s : List ℕ) (i : ℕ) (t : Bool) → t ≡ every p (take (i + 16 - i) (drop i s)) → t ≡ false → run p (drop i s) < 16
-run_few p s i t e f = let n : i + 16 - i ≡ 16 = omega arith in run-some p (drop i s) 16 (rw n at (sym e ∙ f))
+pub passed-is : (p : ℕ → Bool) (s : List ℕ) → length (take_while (every p) (first_chunks 16 (length s / 16) s)) ≡ run p s / 16
+passed-is p s = length-prefix_len (every p) (first_chunks 16 (length s / 16) s) ∙ chunks_is p (length s / 16) s (omega arith) (omega arith)
 
 -- who passes the first test passes the second: so the second run may begin behind the first one's blocks
 pub run_skip : (p q : ℕ → Bool) → ((b : ℕ) → p b ≡ true → q b ≡ true) → (s : List ℕ) (n : ℕ) → n ≤ run p s → run q s ≡ n + run q (drop n s)
@@ -149,10 +144,6 @@ module _ (f : ℕ → ℕ → Bool) (w s : List ℕ) (i : ℕ) where
   unfolding agrees
   agrees-end h = rw (drop_of_length-le w h)
 
-  pub agrees_short : i < length w → length s ≤ i → agrees f (drop i w) (drop i s) ≡ false
-  unfolding agrees
-  agrees_short h k = rw (drop-cons w i 0 h, drop_of_length-le s k)
-
   pub agrees_more : i < length w → i < length s → f (get_or w i 0) (get_or s i 0) ≡ true
       → agrees f (drop i w) (drop i s) ≡ agrees f (drop (i + 1) w) (drop (i + 1) s)
   unfolding agrees
@@ -175,6 +166,34 @@ agrees-le f (a ∷ w) (b ∷ s) e = go (f a b) e (agrees-le f w s)
 pub begins-le : (w s : List ℕ) → begins w s ≡ true → length w ≤ length s
 begins-le w s e = agrees-le (λ a b. eqb b a) w s e
 
+eqb-sym : (a b : ℕ) → eqb a b ≡ eqb b a
+eqb-sym a b = go (eqb a b) refl
+  where
+    go : (t : Bool) → eqb a b ≡ t → t ≡ eqb b a
+    go true e = sym (eq-eqb b a (sym (eqb-true a b e)))
+    go false e = sym (ne_eqb b a (λ q. true≢false (sym (eq-eqb a b (sym q)) ∙ e)))
+
+same_start : (w s : List ℕ) → pointwise eqb w (take (length w) s) ≡ begins w s
+unfolding agrees
+same_start [] s = refl
+same_start (a ∷ w) [] = refl
+same_start (a ∷ w) (b ∷ s) = ap₂ ◌&&◌ (eqb-sym a b) (same_start w s)
+
+pub begins_by_start : (w s : List ℕ) → starts_with eqb s w ≡ begins w s
+begins_by_start w s = same_start w s
+
+pub word_by_equal : (w s : List ℕ) → pointwise eqb s w ≡ is_word w s
+unfolding agrees is_word
+word_by_equal [] [] = refl
+word_by_equal [] (b ∷ s) = rw (eqb-suc-zero (length s)) refl
+word_by_equal (a ∷ w) [] = rw (eqb-zero-suc (length w)) refl
+word_by_equal (a ∷ w) (b ∷ s) = rw (eqb-suc-suc (length s) (length w)) (ap (λ (t : Bool). eqb b a && t) (word_by_equal w s) ∙ go (eqb b a) (eqb (length s) (length w)))
+  where
+    go : (t u : Bool) → t && (u && begins w s) ≡ u && (t && begins w s)
+    go true u = refl
+    go false true = refl
+    go false false = refl
+
 -- a text that begins with a word has it there
 pub begins-take : (w s : List ℕ) → begins w s ≡ true → take (length w) s ≡ w
 unfolding agrees
@@ -195,11 +214,9 @@ word-is w s e =
 pub part_from : (s : List ℕ) (n : ℕ) → take (length s - n) (drop n s) ≡ drop n s
 part_from s n = take_all (length s - n) (drop n s) (simp length-drop (omega arith))
 
--- only the empty word stands past the end
-pub begins-past : (w s : List ℕ) (n : ℕ) → length s ≤ n → eqb (length w) 0 ≡ begins w (drop n s)
-unfolding agrees
-begins-past [] s n h = refl
-begins-past (b ∷ w) s n h = rw (drop_of_length-le s h) (ne_eqb (suc (length w)) 0 (λ e. suc-ne-zero _ e))
+-- the part from n to the end, where the walk begins no further than the end
+pub rest_part : (s : List ℕ) (n m : ℕ) → m ≡ min n (length s) → take (length s - m) (drop m s) ≡ drop n s
+rest_part s n m e = part_from s m ∙ ap (λ (k : ℕ). drop k s) e ∙ drop_min n s
 
 -- ---- lists each of whose members has a property
 

@@ -7,13 +7,14 @@ use lib.ListN.{length}
 use borrow.Author.Tests.{lt-ltb, le-ltb}
 use Rattle.reasons.specs.declared.Reason.TheVariants as Reasons
 use Rattle.write.specs.Written.{fitted}
-use Rattle.write.specs.declared.Written.TheVariants.{Whole, Refused}
+use Rattle.std.specs.Prelude.{Ok}
+use Rattle.judge.specs.Message.{refused}
 
 module _ (o : List ℕ) (room : ℕ) where
-  pub fitted_no : room < length o → fitted o room ≡ Refused Reasons.NoRoom 0
+  pub fitted_no : room < length o → fitted o room ≡ refused Reasons.NoRoom 0
   unfolding fitted
   fitted_no h = rw (lt-ltb room (length o) h, fitted)
 
-  pub fitted_whole : length o ≤ room → fitted o room ≡ Whole (length o)
+  pub fitted_whole : length o ≤ room → fitted o room ≡ Ok (length o)
   unfolding fitted
   fitted_whole h = rw (le-ltb room (length o) h, fitted)

@@ -8,33 +8,49 @@ use native.Mathlib.Numerals.{add-one}
 use native.Mathlib.Omega.{arith}
 use lib.Dec.{eqb, leb}
 use lib.ListN.{length, take, drop, get_or, length-take, length-drop, drop_of_length-le}
-use lib.Seq.{take_all, length-take-le, drop-cons, get_or-take}
+use lib.Seq.{take_all, drop-cons, get_or-take, get_or-drop}
 use borrow.Author.Tests.{eqb-true, eqb-false, eq-eqb, ne_eqb, le-leb}
+use Rattle.std.proofs.Common.{rules}
+use Rattle.std.proofs.lemmas.Slice.{between_is}
 use Rattle.lines.specs.Text.{no_span}
 use Rattle.lines.specs.declared.Span.{Span}
-use Rattle.grammar.specs.declared.Form.{Form}
-use Rattle.grammar.specs.declared.Form.TheVariants.{Oem}
+use Rattle.lines.specs.declared.Form.{Form}
+use Rattle.lines.specs.declared.Form.TheVariants.{Oem}
 use Rattle.step.specs.declared.State.{State}
 use Rattle.step.specs.declared.Step.{Step}
 use Rattle.write.specs.Plain.{Item, item, lead_of, is_field, words_of, parting_of, behind, plain}
-use Rattle.write.specs.Inner.{Held, held, spaced, values_of, leads_of, items_at}
+use Rattle.write.specs.Inner.{Held, held, spaced, values_of, ValuesHeld, leads_of, items_at}
 use Rattle.write.proofs.Leads.{leads_none, leads_one}
 use Rattle.write.proofs.Names.{Rowed, none, one, seven}
 
 -- ---- values parted by blanks, seen from a place
 
-module _ (f : List ℕ) (at k : ℕ) (ps : List Span) where
-  pub spaced_turn : (i : ℕ) → i < k → k ≤ length ps
-      → spaced f at (drop i (take k ps)) ≡ 32 ∷ held f at (get_or ps i no_span) ++ spaced f at (drop (i + 1) (take k ps))
-  unfolding spaced
-  spaced_turn i h j =
-      let q : length (take k ps) ≡ k = length-take-le k ps j in
-      let d : drop i (take k ps) ≡ get_or ps i no_span ∷ drop (i + 1) (take k ps) = rw (add-one i, ← get_or-take k ps i no_span h) (drop-cons (take k ps) i no_span (omega arith)) in
-      rw d
+module _ (f : List ℕ) (at : ℕ) (x : Step) where
+  -- the spans behind the first
+  abbrev pub later : List Span
+  later = take (x.count - 1) (drop 1 x.spans)
 
-  pub spaced-end : (i : ℕ) → k ≤ i → spaced f at (drop i (take k ps)) ≡ []
+  later_lem : drop 1 (take x.count x.spans) ≡ later
+  later_lem = search (rules, between_is)
+
+  pub values_first : values_of f at x ≡ held f at (get_or x.spans 0 no_span) ++ spaced f at later
+  unfolding values_of
+  values_first = rw later_lem
+
+  pub held_next : ValuesHeld f at x → (i : ℕ) → i < length later → Held f at (get_or later i no_span)
+  held_next v i h =
+      let k : i < x.count - 1 = omega (arith, length-take (x.count - 1) (drop 1 x.spans)) in
+      rw (get_or-take (x.count - 1) (drop 1 x.spans) i no_span k, get_or-drop 1 x.spans i no_span) (v.inside (1 + i) (omega arith))
+
+module _ (f : List ℕ) (at : ℕ) (ps : List Span) (i : ℕ) where
+  -- the next value behind a blank, and those after it
+  pub values_turn : i < length ps → spaced f at (drop i ps) ≡ (32 ∷ []) ++ (held f at (get_or ps i no_span) ++ spaced f at (drop (i + 1) ps))
   unfolding spaced
-  spaced-end i h = rw (drop_of_length-le (take k ps) {i = i} (simp length-take (omega arith)))
+  values_turn h = rw (drop-cons ps i no_span h, add-one i)
+
+  pub values_end : length ps ≤ i → spaced f at (drop i ps) ≡ []
+  unfolding spaced
+  values_end h = rw (drop_of_length-le ps h)
 
 -- ---- a line of rows
 

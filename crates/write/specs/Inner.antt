@@ -1,15 +1,15 @@
 -- What the inner functions put and ask. No public promise speaks of these.
 -- Assumes nothing.
-use Rattle.std.specs.Prelude.{ℕ, ◌+◌, ◌-◌, ◌≤◌, ◌<◌, ◌≡◌, List, [], ◌∷◌, ◌++◌, Bool, true, false, eqb, length, take, drop, get_or}
+use Rattle.std.specs.Prelude.{ℕ, ◌+◌, ◌-◌, ◌≤◌, ◌<◌, ◌≡◌, List, [], ◌∷◌, ◌++◌, Bool, true, false, eqb, length, take, drop, get_or, Ok, Err}
 use Rattle.lines.specs.Feed.{Line, lines_at, text_len}
 use Rattle.lines.specs.Text.{equals_at, trim_of, no_span}
 use Rattle.lines.specs.declared.Span.{Span}
-use Rattle.grammar.specs.declared.Form.{Form}
+use Rattle.lines.specs.declared.Form.{Form}
 use Rattle.step.specs.Step.{part, fresh_state, step_of}
 use Rattle.step.specs.declared.State.{State}
 use Rattle.step.specs.declared.Step.{Step}
 use Rattle.judge.specs.Message.{feed_limit, judge_texts, texts, up_to}
-use Rattle.judge.specs.declared.Judged.TheVariants.{Accepted}
+use Rattle.judge.specs.declared.Found.{Found}
 use Rattle.write.specs.Plain.{Item, item, word_of, lead_of, behind, plain}
 
 -- ---- what is put
@@ -69,19 +69,20 @@ items_at c f at (p ∷ ps) = item c (held f at p) ∷ items_at (c + 1) f at ps
 
 unfoldable pub items_from : State → List ℕ → List Line → List Item
 items_from st f [] = []
-items_from st f (l ∷ ls) = let x = step_of st l.text in items_at x.code f l.start (take x.count x.spans) ++ items_from x.state f ls
+items_from st f (l ∷ ls) =
+    elim (step_of st l.text) [ Err r ↦ items_from st f ls | Ok x ↦ items_at x.code f l.start (take x.count x.spans) ++ items_from x.state f ls ]
 
 -- from the first row of a message on, or from a later one
 unfoldable pub written_from : Bool → Form → List Item → List ℕ
 written_from true f is = plain f is
 written_from false f is = behind f is
 
--- the message from a place on, in plain form
-abbrev pub plain_from : List ℕ → ℕ → Form → List ℕ
-plain_from f from form = plain form (items_from (fresh_state form) f (up_to true (lines_at from (drop from f))))
+-- the message that is found at a place, in plain form
+abbrev pub plain_from : List ℕ → Found → List ℕ
+plain_from f x = plain x.form (items_from (fresh_state x.form) f (up_to true (lines_at x.at (drop x.at f))))
 
 -- it is accepted
-pub record Writable (f : List ℕ) (from : ℕ) (form : Form) : Type 0 where
+pub record Writable (f : List ℕ) (x : Found) : Type 0 where
   pub limit : length f ≤ feed_limit
   pub rows : ℕ
-  pub right : judge_texts (fresh_state form) 1 0 (texts (up_to true (lines_at from (drop from f)))) ≡ Accepted rows
+  pub right : judge_texts (fresh_state x.form) 1 0 (texts (up_to true (lines_at x.at (drop x.at f)))) ≡ Ok rows

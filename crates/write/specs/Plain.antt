@@ -4,8 +4,8 @@ use Rattle.std.specs.Prelude.{ℕ, List, [], ◌∷◌, ◌++◌, map, Bool, tru
 use Rattle.words.specs.Words.{bytes}
 use Rattle.keywords.specs.Keywords.{Entry, keywords}
 use Rattle.grammar.specs.Rows.{between}
-use Rattle.grammar.specs.declared.Form.{Form}
-use Rattle.grammar.specs.declared.Form.TheVariants.{Opm, Oem}
+use Rattle.lines.specs.declared.Form.{Form}
+use Rattle.lines.specs.declared.Form.TheVariants.{Opm, Oem}
 use Rattle.judge.specs.Message.{rows_of}
 use Rattle.judge.specs.declared.Row.{Row}
 

@@ -1,200 +1,118 @@
 // A message written out in one plain form, into a lent buffer.
 #![tactic(auto)]
 
-ghost use Rattle.std.specs.Prelude.{◌≡◌, true, ◌++◌, ◌+◌, ◌≤◌, ◌<◌, length};
-ghost use Rattle.words.specs.Words.{bytes};
-ghost use Rattle.write.specs.Plain.{lead_of, plain_of};
+ghost use Rattle.std.specs.Prelude.{◌≡◌, ◌<◌, length};
+ghost use Rattle.write.specs.Plain.{plain_of};
 ghost use Rattle.write.specs.Written.{fitted, written_of, buffer_after};
-ghost use Rattle.ink.specs.Ink.{inked, Room};
 ghost use Rattle.write.specs.Inner.{Held, held, values_of, ValuesHeld, text_at, name_of, Named, leads_of, break_of, line_of, plain_from, Writable};
 
-use grammar::Form;
-use ink::put;
-use judge::{Met, Sighted};
+use ink::{Ink, Pen, Ruler};
+use judge::{Found, Refusal};
 use lines::Span;
 use reasons::Reason;
 use step::{State, Step};
 
-// A message written whole, with its length, or why it is not.
-#[derive(Clone, Copy)]
-pub enum Written {
-    Whole(u32),
-    Refused(Reason, u32),
-}
-
-// A row's value, out of the line that starts at `at`.
-fn put_value(
-    buffer: &mut [u8],
-    n: usize,
-    feed: &[u8],
-    at: usize,
-    span: Span,
-    writing: bool,
-) -> usize
-    requires held { Held feed.now at span }
-    requires room { Room writing n (held feed.now at span) buffer.old }
-    ensures answer { result ≡ n + length (held feed.now at span) }
-    ensures buffer { buffer.new ≡ inked writing n (held feed.now at span) buffer.old }
-{
-    let from = at + span.from;
-    let to = at + span.to;
-    put(buffer, n, &feed[from..to], writing)
-}
-
-// The values of a line's rows, parted by one blank.
-fn put_values(
-    buffer: &mut [u8],
-    n: usize,
-    feed: &[u8],
-    at: usize,
-    step: Step,
-    writing: bool,
-) -> usize
-    requires values_held { ValuesHeld feed.now at step }
-    requires room { Room writing n (values_of feed.now at step) buffer.old }
-    ensures answer { result ≡ n + length (values_of feed.now at step) }
-    ensures buffer { buffer.new ≡ inked writing n (values_of feed.now at step) buffer.old }
-{
-    let spans = step.spans;
-    let count = step.count;
-    let mut m = put_value(buffer, n, feed, at, spans[0], writing);
-    let mut i = 1;
-    while i < count {
-        let next = put(buffer, m, b" ", writing);
-        m = put_value(buffer, next, feed, at, spans[i], writing);
-        i += 1;
-    }
-    m
-}
-
-// An assignment's keyword, as the line has it, and `=`.
-fn put_keyword(buffer: &mut [u8], n: usize, feed: &[u8], at: usize, writing: bool) -> usize
-    requires at_in_bounds { at < length feed.now }
-    requires room { Room writing n (name_of (text_at feed.now at) ++ bytes "=") buffer.old }
-    ensures answer { result ≡ n + length (name_of (text_at feed.now at) ++ bytes "=") }
-    ensures buffer { buffer.new ≡ inked writing n (name_of (text_at feed.now at) ++ bytes "=") buffer.old }
-{
-    let ends = lines::line_at(feed, at);
-    let end = ends.end;
-    let text = &feed[at..end];
-    let equals = words::byte_at(text, 61);
-    let name = lines::trim(&text[..equals]);
-    let from = name.from;
-    let to = name.to;
-    let m = put(buffer, n, &text[from..to], writing);
-    put(buffer, m, b"=", writing)
-}
-
-// What stands on a line of one row before its value.
-fn put_lead(
-    buffer: &mut [u8],
-    n: usize,
-    feed: &[u8],
-    at: usize,
-    code: u16,
-    empty: bool,
-    writing: bool,
-) -> usize
-    requires at_in_bounds { at < length feed.now }
-    requires named { Named feed.now at code }
-    requires room { Room writing n (lead_of code empty) buffer.old }
-    ensures answer { result ≡ n + length (lead_of code empty) }
-    ensures buffer { buffer.new ≡ inked writing n (lead_of code empty) buffer.old }
-{
-    match code {
-        37 => put(buffer, n, b"META_START", writing),
-        44 => put(buffer, n, b"META_STOP", writing),
-        45 => {
-            if empty {
-                return put(buffer, n, b"COMMENT", writing);
-            }
-            put(buffer, n, b"COMMENT ", writing)
-        }
-        _ => put_keyword(buffer, n, feed, at, writing),
-    }
-}
-
-// A data line has seven rows, and nothing before their values.
-fn put_leads(
-    buffer: &mut [u8],
-    n: usize,
-    feed: &[u8],
-    at: usize,
-    step: Step,
-    writing: bool,
-) -> usize
-    requires at_in_bounds { at < length feed.now }
-    requires spans_len { length step.spans ≡ 7 }
-    requires named { step.count ≡ 1 → Named feed.now at step.code }
-    requires room { Room writing n (leads_of step) buffer.old }
-    ensures answer { result ≡ n + length (leads_of step) }
-    ensures buffer { buffer.new ≡ inked writing n (leads_of step) buffer.old }
-{
-    if step.count != 1 {
-        return n;
-    }
-    let spans = step.spans;
-    let p = spans[0];
-    put_lead(buffer, n, feed, at, step.code, p.from == p.to, writing)
-}
-
 // An LF before each line but the first.
-fn put_break(buffer: &mut [u8], n: usize, first: bool, writing: bool) -> usize
-    requires { Room writing n (break_of first) buffer.old }
-    ensures answer { result ≡ n + length (break_of first) }
-    ensures buffer { buffer.new ≡ inked writing n (break_of first) buffer.old }
+fn break_of(first: bool) -> &'static [u8]
+    ensures { result.now ≡ break_of first }
 {
-    if first {
-        return n;
-    }
-    put(buffer, n, b"\n", writing)
+    if first { b"" } else { b"\n" }
 }
 
-// A line that has rows.
-fn put_line(
-    buffer: &mut [u8],
-    n: usize,
-    feed: &[u8],
+// A line that has rows: it starts at `at` of the feed.
+#[derive(Clone, Copy, Drop)]
+struct Line<'a> {
+    feed: &'a [u8],
     at: usize,
     step: Step,
-    first: bool,
-    writing: bool,
-) -> usize
-    requires at_in_bounds { at < length feed.now }
-    requires values_held { ValuesHeld feed.now at step }
-    requires named { step.count ≡ 1 → Named feed.now at step.code }
-    requires room { Room writing n (line_of first feed.now at step) buffer.old }
-    ensures answer { result ≡ n + length (line_of first feed.now at step) }
-    ensures buffer { buffer.new ≡ inked writing n (line_of first feed.now at step) buffer.old }
-{
-    let begun = put_break(buffer, n, first, writing);
-    let led = put_leads(buffer, begun, feed, at, step, writing);
-    put_values(buffer, led, feed, at, step, writing)
+    ghost at_in_bounds: { at < length feed.now },
+    ghost values_held: { ValuesHeld feed.now at step },
+    ghost named: { step.count ≡ 1 → Named feed.now at step.code },
 }
 
-// A walk along the message that starts at a place, with the step that judging takes: its plain form is written from the buffer's start on, or only measured.
-fn walk(buffer: &mut [u8], feed: &[u8], from: usize, form: Form, writing: bool) -> usize
-    requires writable { Writable feed.now from form }
-    requires form_in_bounds { writing ≡ true → length (plain_from feed.now from form) ≤ length buffer.old }
-    ensures answer { result ≡ length (plain_from feed.now from form) }
-    ensures buffer { buffer.new ≡ inked writing 0 (plain_from feed.now from form) buffer.old }
-    ensures few { result ≤ 4294967295 }
-{
-    let mut at = from;
-    let mut n: usize = 0;
-    let mut first = true;
-    let mut state = State::fresh(form);
-    loop {
-        let moved = judge::next_line(feed, at, at == from, state, true); // sure: the message is right
-        let met = moved.met;
-        match met {
-            Met::End => return n,
-            Met::Offence(_) => return n,
-            Met::Within => {}
+impl Line<'_> {
+    // A row's value.
+    fn value(&self, span: Span) -> &[u8]
+        requires { Held self.now.feed.now self.now.at span }
+        ensures { result.now ≡ held self.now.feed.now self.now.at span }
+    {
+        &self.feed[self.at + span.from..self.at + span.to]
+    }
+
+    // An assignment's keyword, as the line has it.
+    fn keyword(&self) -> &[u8]
+        ensures { result.now ≡ name_of (text_at self.now.feed.now self.now.at) }
+    {
+        let ends = lines::line_at(self.feed, self.at);
+        let text = &self.feed[self.at..ends.end];
+        let equals = words::byte_at(text, b'=');
+        let name = lines::trim(&text[..equals]);
+        &text[name.from..name.to]
+    }
+
+    // What stands before its values: a data line has seven, and nothing before them.
+    #[tactic(auto, using(crate::proofs::Leads::leads_none, crate::proofs::Leads::leads_start, crate::proofs::Leads::leads_stop, crate::proofs::Leads::leads_empty, crate::proofs::Leads::leads_blank, crate::proofs::Leads::leads_keyword), unfolding(words::specs::Words::bytes))]
+    fn put_lead<I: Ink>(&self, ink: &mut I)
+        requires { I.room ink.old (leads_of self.now.step) }
+        ensures { ink.new ≡ I.after ink.old (leads_of self.now.step) }
+    {
+        if self.step.count != 1 {
+            return;
         }
+        let value = self.step.spans[0];
+        match self.step.code {
+            37 => ink.put(b"META_START"),
+            44 => ink.put(b"META_STOP"),
+            45 if value.from == value.to => ink.put(b"COMMENT"),
+            45 => ink.put(b"COMMENT "),
+            _ => {
+                ink.put(self.keyword());
+                ink.put(b"=");
+            }
+        }
+    }
+
+    // Its values, parted by one blank.
+    #[tactic(auto, using(crate::proofs::Turns::values_first, crate::proofs::Turns::values_turn, crate::proofs::Turns::values_end, crate::proofs::Turns::held_next))]
+    fn put_values<I: Ink>(&self, ink: &mut I)
+        requires { I.room ink.old (values_of self.now.feed.now self.now.at self.now.step) }
+        ensures { ink.new ≡ I.after ink.old (values_of self.now.feed.now self.now.at self.now.step) }
+    {
+        let spans = &self.step.spans;
+        ink.put(self.value(spans[0]));
+        for &span in &spans[1..self.step.count] {
+            ink.put(b" ");
+            ink.put(self.value(span));
+        }
+    }
+
+    // All of it, behind an LF where it is not the first.
+    #[tactic(auto, unfolding(crate::specs::Inner::line_of))]
+    fn put<I: Ink>(&self, ink: &mut I, first: bool)
+        requires { I.room ink.old (line_of first self.now.feed.now self.now.at self.now.step) }
+        ensures { ink.new ≡ I.after ink.old (line_of first self.now.feed.now self.now.at self.now.step) }
+    {
+        ink.put(break_of(first));
+        self.put_lead(ink);
+        self.put_values(ink);
+    }
+}
+
+// A walk along the message that starts at a place, with the step that judging takes: it puts the message's plain form.
+fn walk<I: Ink>(ink: &mut I, feed: &[u8], found: Found)
+    requires writable { Writable feed.now found }
+    requires room { I.room ink.old (plain_from feed.now found) }
+    ensures { ink.new ≡ I.after ink.old (plain_from feed.now found) }
+{
+    let from = found.at;
+    let mut at = from;
+    let mut first = true;
+    let mut state = State::fresh(found.form);
+    // no iterator: each line is asked for with the state that the one before left; sure, since the message is right and no line offends
+    'lines: while let Ok(Some(moved)) = judge::next_line(feed, at, at == from, state, true) {
         let step = moved.step;
         if 0 < step.count {
-            n = put_line(buffer, n, feed, at, step, first, writing);
+            Line { feed, at, step }.put(ink, first);
             first = false;
         }
         state = step.state;
@@ -203,27 +121,28 @@ fn walk(buffer: &mut [u8], feed: &[u8], from: usize, form: Form, writing: bool) 
 }
 
 // A message that is right, measured first: nothing is written before it is known to fit.
-#[tactic(auto, using(crate::proofs::Fits::fitted_no, crate::proofs::Fits::fitted_whole, ink::proofs::Laws::put_whole), unfolding(crate::specs::Written::buffer_after, ink::specs::Ink::inked))]
-fn write_found(buffer: &mut [u8], feed: &[u8], from: usize, form: Form) -> Written
-    requires { Writable feed.now from form }
-    ensures answer { result ≡ fitted (plain_from feed.now from form) (length buffer.old) }
-    ensures buffer { buffer.new ≡ buffer_after result (plain_from feed.now from form) buffer.old }
+// `spoken::say` measures and writes so too: one function for both takes a trait of what can be put and a struct for each, in place of these five lines.
+#[tactic(auto, using(crate::proofs::Fits::fitted_no, crate::proofs::Fits::fitted_whole, crate::proofs::Walks::plain_few, ink::proofs::Laws::put_whole), unfolding(crate::specs::Written::buffer_after))]
+fn write_found(buffer: &mut [u8], feed: &[u8], found: Found) -> Result<u32, Refusal>
+    requires { Writable feed.now found }
+    ensures answer { result ≡ fitted (plain_from feed.now found) (length buffer.old) }
+    ensures buffer { buffer.new ≡ buffer_after result (plain_from feed.now found) buffer.old }
 {
-    let length = walk(buffer, feed, from, form, false);
-    if buffer.len() < length {
-        return Written::Refused(Reason::NoRoom, 0);
+    let mut ruler = Ruler::new();
+    walk(&mut ruler, feed, found);
+    if buffer.len() < ruler.len() {
+        return Err(Reason::NoRoom.into());
     }
-    walk(buffer, feed, from, form, true);
-    Written::Whole(length as u32)
+    let mut pen = Pen::new(buffer);
+    walk(&mut pen, feed, found);
+    Ok(ruler.len() as u32)
 }
 
 // Judges a message and, where it is right and the buffer has room, writes it there in plain form.
-pub fn write(feed: &[u8], message: usize, buffer: &mut [u8]) -> Written
+pub fn write(feed: &[u8], message: usize, buffer: &mut [u8]) -> Result<u32, Refusal>
     ensures answer { result ≡ written_of feed.now message (length buffer.old) }
     ensures buffer { buffer.new ≡ buffer_after result (plain_of feed.now message) buffer.old }
 {
-    match judge::sight(feed, message) {
-        Sighted::Wrong(reason, line) => Written::Refused(reason, line),
-        Sighted::Right(at, form, _) => write_found(buffer, feed, at, form),
-    }
+    let sighted = judge::sight(feed, message)?;
+    write_found(buffer, feed, sighted.found)
 }

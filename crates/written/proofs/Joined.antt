@@ -14,7 +14,7 @@ use Rattle.words.specs.Words.{run, Each}
 use Rattle.words.proofs.Laws.{run_stop, run-le}
 use Rattle.lines.specs.Feed.{Line, is_end, lines, lines_at, text_len, end_with, end_len, line_len, ends_of}
 use Rattle.lines.specs.Text.{is_odd, odd_at}
-use Rattle.lines.proofs.Lists.{lines_next, lines_end, len_some, placed}
+use Rattle.lines.proofs.Lists.{lines_next, lines_end, len_some, line_first, len_le, by_lines}
 use Rattle.judge.specs.Message.{is_heading, from_heading, up_to, message_of, texts}
 use Rattle.write.proofs.Readings.{whether, either}
 use Rattle.written.proofs.Bytes.{Some, after, run-cons, run_past, pass_split, pass_weaker}
@@ -60,35 +60,6 @@ pub lines_joined : (p : List ℕ) (ps : List (List ℕ)) → Whole p → Each Wh
 lines_joined p ps w v = joined_at 0 p ps w v
 
 -- ---- a feed's lines stand in it
-
-abbrev first : ℕ → List ℕ → Line
-first at s = record { start = at; text = take (text_len s) s }
-
--- a line takes no more than there is
-len_le : (s : List ℕ) → 0 < length s → line_len s ≤ length s
-unfolding ends_of
-len_le s h = omega (arith, (placed s 0 (ends_of 0 s) h refl).next)
-
--- what holds of no lines at a feed's end, and of the lines from one on where it holds of those past it, holds of all
-module _ (f : List ℕ) (P : ℕ → List Line → Type 0) (none : P (length f) [])
-    (more : (at : ℕ) (s : List ℕ) (ls : List Line) → s ≡ drop at f → 0 < length s → P (at + line_len s) ls → P at (first at s ∷ ls)) where
-  none_left : (at : ℕ) → at ≤ length f → [] ≡ drop at f → P at (lines_at at [])
-  none_left at k e =
-      let z : at ≡ length f = omega (arith, ap length e, length-drop at f) in
-      rw (lines_end at, z) none
-
-  by_lines_to : (n at : ℕ) (s : List ℕ) → length s ≤ n → at ≤ length f → s ≡ drop at f → P at (lines_at at s)
-  by_lines_to zero at [] h k e = none_left at k e
-  by_lines_to (suc n) at [] h k e = none_left at k e
-  by_lines_to zero at (b ∷ s) h k e = absurd (not-suc-le-zero h)
-  by_lines_to (suc n) at (b ∷ s) h k e =
-      let w = b ∷ s in
-      let i = by_lines_to n (at + line_len w) (drop (line_len w) w) (omega (arith, len_some w (omega arith), length-drop (line_len w) w))
-      (omega (arith, len_le w (omega arith), ap length e, length-drop at f)) (ap (drop (line_len w)) e ∙ drop-drop (line_len w) at f) in
-      rw (lines_next at w (omega arith)) (more at w _ e (omega arith) i)
-
-  by_lines : P 0 (lines f)
-  by_lines = by_lines_to (length f) 0 f (omega arith) (omega arith) refl
 
 -- a line stands in the feed at its start
 abbrev pub Stands : List ℕ → Line → Type 0
@@ -141,7 +112,7 @@ module _ (f : List ℕ) where
       (at + length (after 10 (texts (up_to false ls))) ≤ next_heading (length f) ls + min 1 (length f - at))
       × (next_heading (length f) ls ≤ length f) × ((k : ℕ) → Begins (from_heading k ls))
 
-  lies_more : (at : ℕ) (s : List ℕ) (ls : List Line) → s ≡ drop at f → 0 < length s → Lies (at + line_len s) ls → Lies at (first at s ∷ ls)
+  lies_more : (at : ℕ) (s : List ℕ) (ls : List Line) → s ≡ drop at f → 0 < length s → Lies (at + line_len s) ls → Lies at (line_first at s ∷ ls)
   unfolding after up_to next_heading from_heading
   lies_more at s ls e h ih = go (is_heading (take (text_len s) s))
     where
@@ -152,9 +123,9 @@ module _ (f : List ℕ) where
       room = rw (length-take-le (text_len s) s (run-le _ s)) (omega (arith, ih.0, len_more s, len_le s h, run-le (λ b. not (is_end b)) s, size))
 
       go : (t : Bool)
-          → (at + length (after 10 (texts (elim t [ true ↦ [] | false ↦ first at s ∷ up_to false ls ]))) ≤ elim t [ true ↦ at | false ↦ next_heading (length f) ls ] + min 1 (length f - at))
+          → (at + length (after 10 (texts (elim t [ true ↦ [] | false ↦ line_first at s ∷ up_to false ls ]))) ≤ elim t [ true ↦ at | false ↦ next_heading (length f) ls ] + min 1 (length f - at))
           × (elim t [ true ↦ at | false ↦ next_heading (length f) ls ] ≤ length f)
-          × ((k : ℕ) → Begins (elim t [ true ↦ elim (eqb k 1) [ true ↦ first at s ∷ ls | false ↦ from_heading (k - 1) ls ] | false ↦ from_heading k ls ]))
+          × ((k : ℕ) → Begins (elim t [ true ↦ elim (eqb k 1) [ true ↦ line_first at s ∷ ls | false ↦ from_heading (k - 1) ls ] | false ↦ from_heading k ls ]))
       go true = (omega arith, omega (arith, size), λ k. either Begins (eqb k 1) (room, ih.1) (ih.2 (k - 1)))
       go false = (omega (arith, room, size, length-append (take (text_len s) s) (after 10 (texts (up_to false ls)))), ih.1, ih.2)
 

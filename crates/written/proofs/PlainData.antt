@@ -12,16 +12,12 @@ use Rattle.words.specs.Words.{bytes, agrees, begins, run}
 use Rattle.words.proofs.Laws.{run-le, run_stop}
 use Rattle.lines.specs.Text.{is_blank, is_odd, blanks, cut_end, trim_of, equals_at, heading_of, comment_of, assignment_of, split_of, no_span}
 use Rattle.lines.specs.declared.Span.{Span}
-use Rattle.lines.specs.declared.Heading.TheVariants as Kinds
-use Rattle.lines.specs.declared.Comment.TheVariants.{Other}
-use Rattle.lines.specs.declared.Assignment.TheVariants as Assigns
 use Rattle.lines.proofs.Laws.{heads_no, comment_other}
 use Rattle.values.specs.Number.{is_number}
 use Rattle.epochs.specs.Epoch.{epoch_of}
 use Rattle.epochs.specs.declared.Instant.{Instant}
-use Rattle.epochs.specs.declared.Epoch.TheVariants.{At}
-use Rattle.grammar.specs.declared.Form.{Form}
-use Rattle.grammar.specs.declared.Form.TheVariants.{Oem}
+use Rattle.lines.specs.declared.Form.{Form}
+use Rattle.lines.specs.declared.Form.TheVariants.{Oem}
 use Rattle.step.specs.Step.{seven_rows, past_data, sixty_stands, part, are_numbers, data_at, data_of, fields_of, meta_code, plain_of, uncommented_of, filled_of, step_of}
 use Rattle.step.specs.declared.State.{State}
 use Rattle.step.proofs.Laws.{fields_in_lem}
@@ -30,6 +26,7 @@ use Rattle.written.proofs.Spaced.{parts, Respaced}
 use Rattle.written.proofs.Trimmed.{cut_more}
 use Rattle.write.proofs.Readings.{whether, DataLine, Clean, step_filled}
 use Rattle.write.proofs.Names.{Meta, start, stop, meta_none}
+use Rattle.std.specs.Prelude.{Some, None, Ok}
 
 -- ---- a text that begins with a digit
 
@@ -37,7 +34,7 @@ data Dated : List ℕ → Type 0 where
   dated : {c : ℕ} {r : List ℕ} → 48 ≤ c → c ≤ 57 → Dated (c ∷ r)
 
 -- an epoch does
-epoch_dated : (v : List ℕ) (sixty : Bool) (t : Instant) → epoch_of v sixty ≡ At t → Dated v
+epoch_dated : (v : List ℕ) (sixty : Bool) (t : Instant) → epoch_of v sixty ≡ Some t → Dated v
 unfolding bytes agrees epoch_of
 epoch_dated [] sixty t e = let z : ◌≡◌ {A = ℕ} 0 1 = cc in absurd (omega arith)
 epoch_dated (c ∷ v) sixty t e = go (leb 48 c) refl (leb c 57) refl
@@ -68,18 +65,18 @@ module _ (c : ℕ) (r : List ℕ) (h : 48 ≤ c) (k : c ≤ 57) where
   no_word [] j = absurd (omega arith)
   no_word (a ∷ w) j = rw (ne_eqb c a (λ e. omega arith), agrees)
 
-  no_comment : comment_of (c ∷ r) ≡ Other
+  no_comment : comment_of (c ∷ r) ≡ None
   unfolding bytes
   no_comment = comment_other (c ∷ r) 0 no_blanks (no_word (bytes "COMMENT") (omega arith))
 
-  no_heading : heading_of (c ∷ r) ≡ Kinds.Nothing
+  no_heading : heading_of (c ∷ r) ≡ None
   unfolding bytes heading_of
   no_heading =
       rw (heads_no (bytes "CCSDS_OPM_VERS") (c ∷ r) 0 no_blanks (no_word (bytes "CCSDS_OPM_VERS") (omega arith)), heading_of)
       (rw (heads_no (bytes "CCSDS_OEM_VERS") (c ∷ r) 0 no_blanks (no_word (bytes "CCSDS_OEM_VERS") (omega arith))))
 
   -- nor is it a META line
-  no_meta : (f : Form) → meta_code f (c ∷ r) ≡ 0
+  no_meta : (f : Form) → meta_code f (c ∷ r) ≡ None
   no_meta f = meta_none f (c ∷ r) (λ n m. omega (arith, meta_first m))
 
   -- blanks cut at both ends, it begins where it began
@@ -89,23 +86,23 @@ module _ (c : ℕ) (r : List ℕ) (h : 48 ≤ c) (k : c ≤ 57) where
       let e : cut_end (c ∷ r) ≡ suc (cut_end r) = cut_more c r (rw no_blank (and-false (eqb (cut_end r) 0))) in
       rw e (rw (no_blank, run))
 
-heading_none : {q : List ℕ} → Dated q → heading_of q ≡ Kinds.Nothing
+heading_none : {q : List ℕ} → Dated q → heading_of q ≡ None
 heading_none (dated h k) = no_heading _ _ h k
 
 -- ---- a text with no `=`
 
-equals_none : (s : List ℕ) → equals_at s ≡ length s → assignment_of s ≡ Assigns.Other
+equals_none : (s : List ℕ) → equals_at s ≡ length s → assignment_of s ≡ None
 unfolding assignment_of
 equals_none s h = rw (le-ltb (equals_at s) (length s) (omega arith), assignment_of)
 
-none_equals : (s : List ℕ) → assignment_of s ≡ Assigns.Other → equals_at s ≡ length s
+none_equals : (s : List ℕ) → assignment_of s ≡ None → equals_at s ≡ length s
 unfolding assignment_of
 none_equals s =
-    whether (λ a. a ≡ Assigns.Other → equals_at s ≡ length s) (ltb (equals_at s) (length s)) (λ q e. let z : ◌≡◌ {A = ℕ} 0 1 = cc in absurd (omega arith))
+    whether (λ a. a ≡ None → equals_at s ≡ length s) (ltb (equals_at s) (length s)) (λ q e. let z : ◌≡◌ {A = ℕ} 0 1 = cc in absurd (omega arith))
     (λ q e. omega (arith, ltb-false (equals_at s) (length s) q, run-le (λ b. not (eqb b 61)) s))
 
 -- a line that begins with a digit and has no `=` can only be a data line
-step_fields : (st : State) {q : List ℕ} → Dated q → Clean st q → assignment_of q ≡ Assigns.Other → step_of st q ≡ fields_of st q
+step_fields : (st : State) {q : List ℕ} → Dated q → Clean st q → assignment_of q ≡ None → step_of st q ≡ fields_of st q
 unfolding filled_of uncommented_of plain_of
 step_fields st (dated {c} {r} h j) k a =
     let z : suc (cut_end r) - 0 ≡ suc (cut_end r) = omega arith in
@@ -131,7 +128,7 @@ module _ (s : List ℕ) where
   by_values (p ∷ ps) v vs e = let k : parts s ps ≡ vs = cc in (cc, numbers_are ps ∙ ap numbers k)
 
 -- a data line that is right has seven rows
-fields_right : (st : State) (q : List ℕ) (t : Instant) → DataLine st q t → fields_of st q ≡ seven_rows (past_data st t) (split_of q).spans
+fields_right : (st : State) (q : List ℕ) (t : Instant) → DataLine st q t → fields_of st q ≡ Ok (seven_rows (past_data st t) (split_of q).spans)
 unfolding data_of data_at
 fields_right st q t d =
     fields_in_lem st q Oem d.form
@@ -141,11 +138,11 @@ fields_right st q t d =
 abbrev pub written : {s : List ℕ} → Respaced s → List ℕ
 written w = w.first ++ after 32 w.others
 
-module _ (st : State) (s : List ℕ) (t : Instant) (a : assignment_of s ≡ Assigns.Other) (d : DataLine st s t) (k : Clean st s) (w : Respaced s) where
+module _ (st : State) (s : List ℕ) (t : Instant) (a : assignment_of s ≡ None) (d : DataLine st s t) (k : Clean st s) (w : Respaced s) where
   was : (part (get_or (split_of s).spans 0 no_span) s ≡ w.first) × (are_numbers (drop 1 (split_of s).spans) s ≡ numbers w.others)
   was = by_values s (split_of s).spans _ _ w.values
 
-  epoch_first : epoch_of w.first (sixty_stands st 9) ≡ At t
+  epoch_first : epoch_of w.first (sixty_stands st 9) ≡ Some t
   epoch_first = rw (← was.0) d.epoch
 
   written_dated : Dated (written w)
@@ -163,12 +160,12 @@ module _ (st : State) (s : List ℕ) (t : Instant) (a : assignment_of s ≡ Assi
         timely = d.timely;
       }
 
-  pub data_plain : step_of st (written w) ≡ seven_rows (past_data st t) (split_of (written w)).spans
+  pub data_plain : step_of st (written w) ≡ Ok (seven_rows (past_data st t) (split_of (written w)).spans)
   data_plain =
       step_fields st written_dated
       (record { short = omega arith; plain = w.each (λ b. not (is_odd b)) refl k.plain })
       (equals_none (written w) (w.each (λ b. not (eqb b 61)) refl (none_equals s a)))
       ∙ fields_right st (written w) t written_data
 
-  pub data_heading : heading_of (written w) ≡ Kinds.Nothing
+  pub data_heading : heading_of (written w) ≡ None
   data_heading = heading_none written_dated

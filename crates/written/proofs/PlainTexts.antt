@@ -11,21 +11,18 @@ use lib.ListN.{length, take, drop, replicate, length-append, length-map, length-
 use lib.Seq.{take_all}
 use borrow.Author.Tests.{ne_eqb}
 use Rattle.words.specs.Words.{Each}
-use Rattle.lines.specs.declared.Assignment.TheVariants as Assigns
 use Rattle.lines.specs.Text.{assignment_of, is_odd, split_of, heading_of}
 use Rattle.lines.specs.declared.Span.{Span}
 use Rattle.epochs.specs.declared.Instant.{Instant}
 use Rattle.grammar.specs.Rows.{pick}
 use Rattle.grammar.specs.Order.{next_of, allows}
-use Rattle.grammar.specs.declared.Form.{Form}
-use Rattle.grammar.specs.declared.Form.TheVariants.{Opm, Oem}
+use Rattle.lines.specs.declared.Form.{Form}
+use Rattle.lines.specs.declared.Form.TheVariants.{Opm, Oem}
 use Rattle.grammar.proofs.Laws.{below, comes_only, next_only}
 use Rattle.step.specs.Step.{part, no_row, one_row, seven_rows, fresh_state, past_data, past_comment, fits_here, step_of}
 use Rattle.step.specs.declared.State.{State}
 use Rattle.step.specs.declared.Step.{Step}
-use Rattle.step.specs.declared.Verdict.TheVariants.{Right}
-use Rattle.judge.specs.Message.{is_one, is_heading, form_of, end_of, judge_texts, group_of}
-use Rattle.judge.specs.declared.Judged.TheVariants.{Accepted}
+use Rattle.judge.specs.Message.{is_heading, form_of, end_of, judge_texts, group_of}
 use Rattle.judge.proofs.Laws.{not_both}
 use Rattle.write.specs.Plain.{Item, item, lead_of, is_field, words_of, parting_of, behind as afterItems, plain, type_of}
 use Rattle.write.proofs.Readings.{whether, Stood, value_stood, DataLine, Clean, Reads, blank, comment, meta, assign, fields, read}
@@ -37,6 +34,7 @@ use Rattle.written.proofs.Joined.{Whole, plain_whole}
 use Rattle.written.proofs.Spaced.{parts, split_seven, respaced}
 use Rattle.written.proofs.PlainLine.{Again, OneAgain, one_again, lead_head, lead_other}
 use Rattle.written.proofs.PlainData.{written, data_plain, data_heading}
+use Rattle.std.specs.Prelude.{None, is_some, Ok, Err}
 
 -- ---- rows as they are written, line by line
 
@@ -50,15 +48,19 @@ items_of x t = items_in x.code (parts t (take x.count x.spans))
 
 unfoldable pub items_texts : State → List (List ℕ) → List Item
 items_texts st [] = []
-items_texts st (t ∷ ts) = items_of (step_of st t) t ++ items_texts (step_of st t).state ts
+items_texts st (t ∷ ts) =
+    elim (step_of st t) [ Err r ↦ items_texts st ts | Ok x ↦ items_of x t ++ items_texts x.state ts ]
 
 -- the groups of the rows
 unfoldable pub groups_texts : State → ℕ → List (List ℕ) → List ℕ
 groups_texts st g [] = []
 groups_texts st g (t ∷ ts) =
-    let x = step_of st t in
-    let h = group_of st.form g x.code in
-    replicate x.count h ++ groups_texts x.state h ts
+    elim (step_of st t) [
+      | Err r ↦ groups_texts st g ts
+      | Ok x ↦
+          let h = group_of st.form g x.code in
+          replicate x.count h ++ groups_texts x.state h ts
+    ]
 
 -- a line's rows, written
 abbrev pub plain_line : State → Step → List ℕ → List ℕ
@@ -68,14 +70,16 @@ plain_line st x t = plain st.form (items_of x t)
 unfoldable pub plains : State → List (List ℕ) → List (List ℕ)
 plains st [] = []
 plains st (t ∷ ts) =
-    let x = step_of st t in
-    elim (eqb x.count 0) [ true ↦ plains x.state ts | false ↦ plain_line st x t ∷ plains x.state ts ]
+    elim (step_of st t) [
+      | Err r ↦ plains st ts
+      | Ok x ↦ elim (eqb x.count 0) [ true ↦ plains x.state ts | false ↦ plain_line st x t ∷ plains x.state ts ]
+    ]
 
 -- a line that has rows has a plain line
-pub plains_more : (st : State) (t : List ℕ) (ts : List (List ℕ)) → ((step_of st t).count ≡ 0 → ⊥)
-    → plains st (t ∷ ts) ≡ plain_line st (step_of st t) t ∷ plains (step_of st t).state ts
+pub plains_more : (st : State) (t : List ℕ) (ts : List (List ℕ)) (x : Step) → step_of st t ≡ Ok x → (x.count ≡ 0 → ⊥)
+    → plains st (t ∷ ts) ≡ plain_line st x t ∷ plains x.state ts
 unfolding plains
-plains_more st t ts h = rw (ne_eqb (step_of st t).count 0 h, plains)
+plains_more st t ts x q h = rw (q, plains) (rw (ne_eqb x.count 0 h))
 
 -- ---- what may follow what: no heading but at the start
 
@@ -168,7 +172,7 @@ module _ (st : State) (t : List ℕ) where
         }
 
   -- seven rows
-  module _ (i : Instant) (a : assignment_of t ≡ Assigns.Other) (d : DataLine st t i) (k : Clean st t) where
+  module _ (i : Instant) (a : assignment_of t ≡ None) (d : DataLine st t i) (k : Clean st t) where
     abbrev seven : Step
     seven = seven_rows (past_data st i) (split_of t).spans
 
@@ -192,33 +196,33 @@ module _ (st : State) (t : List ℕ) where
             some = omega (arith, w.field.some, length-append w.first (after 32 w.others));
           });
           behind = rw (is, d.form) (behind_first Oem (item 9 w.first) (items_in 10 w.others) refl);
-          headless = λ b. rw p (ap is_one (data_heading st t i a d k w));
+          headless = λ b. rw p (ap is_some (data_heading st t i a d k w));
           some = λ z. omega arith;
           begun = λ b z. omega arith;
         }
 
   -- a line of one row, its step given
-  one : {x : Step} → step_of st t ≡ x → x.verdict ≡ Right → x.count ≡ 1 → OneAgain st t x
-  one q r n = rw q at (one_again st t (rw q r) (rw q n))
+  one : {x : Step} → step_of st t ≡ Ok x → x.count ≡ 1 → OneAgain st t x
+  one q n = one_again st t _ q n
 
-  stood_line : {x : Step} → step_of st t ≡ x → x.verdict ≡ Right → (c : ℕ) → fits_here st c ≡ true → Stood st c x → Lines st t x
-  stood_line q r c f s = rows (one-plainly s.count (one q r s.count) (stood_follows st c f s))
+  stood_line : {x : Step} → step_of st t ≡ Ok x → (c : ℕ) → fits_here st c ≡ true → Stood st c x → Lines st t x
+  stood_line q c f s = rows (one-plainly s.count (one q s.count) (stood_follows st c f s))
 
-  line : (step_of st t).verdict ≡ Right → Lines st t (step_of st t)
-  line r = let w = read st t r in go refl w.0 w.1 r
+  line : (x : Step) → step_of st t ≡ Ok x → Lines st t x
+  line x r = let w = read st t x r in go r w.0 w.1
     where
-      go : {x : Step} → step_of st t ≡ x → Clean st t → Reads st t x → x.verdict ≡ Right → Lines st t x
-      go q k (blank e) r = none
-      go q k (comment p e) r = rows (one-plainly refl (one q r refl) (comment_follows st p))
-      go q k (meta c e z f) r = stood_line q r c f (record { form = refl; last = refl; code = refl; count = refl })
-      go q k (assign x c a e f) r = stood_line q r c f (value_stood st c x.value t r)
-      go q k (fields i a d) r = rows (seven_plainly i a d k)
+      go : {x : Step} → step_of st t ≡ Ok x → Clean st t → Reads st t x → Lines st t x
+      go q k (blank e) = none
+      go q k (comment p e) = rows (one-plainly refl (one q refl) (comment_follows st p))
+      go q k (meta c e f) = stood_line q c f (record { form = refl; last = refl; code = refl; count = refl })
+      go q k (assign x c a e f y v) = stood_line q c f (value_stood st c x.value t y v)
+      go q k (fields i a d) = rows (seven_plainly i a d k)
 
 -- ---- a message
 
 -- lines that are accepted from a state where n rows have been read, and their plain lines
 pub record Message (st : State) (ts ps : List (List ℕ)) (n total : ℕ) : Type 0 where
-  pub judged : (ln : ℕ) → judge_texts st ln n ps ≡ Accepted total
+  pub judged : (ln : ℕ) → judge_texts st ln n ps ≡ Ok total
   pub items : items_texts st ps ≡ items_texts st ts
   pub groups : (g : ℕ) → groups_texts st g ps ≡ groups_texts st g ts
   pub behind : afterItems st.form (items_texts st ts) ≡ after 10 ps
@@ -230,10 +234,10 @@ abbrev pub PlainMessage : State → List (List ℕ) → ℕ → ℕ → Type 0
 PlainMessage st ts n total = Message st ts (plains st ts) n total
 
 -- the end is the same, whatever its line's number
-end_any : (st : State) (ln n total : ℕ) → end_of st ln n ≡ Accepted total → (ln' : ℕ) → end_of st ln' n ≡ Accepted total
+end_any : (st : State) (ln n total : ℕ) → end_of st ln n ≡ Ok total → (ln' : ℕ) → end_of st ln' n ≡ Ok total
 unfolding end_of
 end_any st ln n total =
-    whether (λ j. j ≡ Accepted total → (ln' : ℕ) → end_of st ln' n ≡ Accepted total) (next_of st.form st.last).end (λ q e ln'. rw (q, end_of) e)
+    whether (λ j. j ≡ Ok total → (ln' : ℕ) → end_of st ln' n ≡ Ok total) (next_of st.form st.last).end (λ q e ln'. rw (q, end_of) e)
     (λ q e. absurd (not_both e refl))
 
 -- a line with no row opens no group
@@ -244,43 +248,46 @@ group_none Oem g = refl
 
 module _ (st : State) (t : List ℕ) (ts : List (List ℕ)) (n total : ℕ) where
   -- a line with no row is left out
-  message_none : step_of st t ≡ no_row st → PlainMessage st ts (n + 0) total → PlainMessage st (t ∷ ts) n total
+  message_none : step_of st t ≡ Ok (no_row st) → PlainMessage st ts (n + 0) total → PlainMessage st (t ∷ ts) n total
   unfolding plains items_texts groups_texts items_in after
   message_none q m =
-      let p : plains st (t ∷ ts) ≡ plains st ts = rw (q, plains) (rw q) in
+      let p : plains st (t ∷ ts) ≡ plains st ts = rw (q, plains) in
+      let i : items_texts st (t ∷ ts) ≡ items_texts st ts = rw (q, items_texts) in
+      let j : (g : ℕ) → groups_texts st g (t ∷ ts) ≡ groups_texts st g ts = λ g. rw (q, groups_texts) (rw group_none) in
       rw p (record {
         judged = rw (add-zero n) at m.judged;
-        items = rw q m.items;
-        groups = λ g. rw q (rw group_none (m.groups g));
-        behind = rw q m.behind;
+        items = rw i m.items;
+        groups = λ g. rw j (m.groups g);
+        behind = rw i m.behind;
         whole = m.whole;
         shorter = omega (arith, m.shorter, length-append t (after 10 ts));
         headless = m.headless;
       })
 
   -- any other is its plain line
-  message_more : {x : Step} → step_of st t ≡ x → x.state.form ≡ st.form → Plainly st t x → PlainMessage x.state ts (n + x.count) total → PlainMessage st (t ∷ ts) n total
+  message_more : {x : Step} → step_of st t ≡ Ok x → x.state.form ≡ st.form → Plainly st t x → PlainMessage x.state ts (n + x.count) total → PlainMessage st (t ∷ ts) n total
   unfolding judge_texts items_texts groups_texts after
   message_more {x} q f w m =
       let l = plain_line st x t in
       let a = w.again in
-      let p : plains st (t ∷ ts) ≡ l ∷ plains x.state ts = plains_more st t ts (rw q w.some) ∙ rw q in
+      let p : plains st (t ∷ ts) ≡ l ∷ plains x.state ts = plains_more st t ts x q w.some in
+      let i : items_texts st (t ∷ ts) ≡ items_of x t ++ items_texts x.state ts = rw (q, items_texts) in
       rw p (record {
-        judged = λ ln. rw (a.is, judge_texts) (rw a.is (m.judged (ln + 1)));
-        items = rw (q, a.is, m.items, a.values);
-        groups = λ g. rw (q, a.is, m.groups);
-        behind = rw (q, behind-append st.form (items_of x t), w.behind, ap (λ (f : Form). afterItems f (items_texts x.state ts)) (sym f) ∙ m.behind);
+        judged = λ ln. rw (a.is, judge_texts) (m.judged (ln + 1));
+        items = rw i (rw (a.is, items_texts) (rw (m.items, a.values)));
+        groups = λ g. rw (q, groups_texts) (rw (a.is, groups_texts) (rw m.groups));
+        behind = rw i (rw (behind-append st.form (items_of x t), w.behind, ap (λ (f : Form). afterItems f (items_texts x.state ts)) (sym f) ∙ m.behind));
         whole = (record { some = a.some; whole = plain_whole l a.clean }, m.whole);
         shorter = omega (arith, m.shorter, a.shorter, length-append t (after 10 ts), length-append l (after 10 (plains x.state ts)));
         headless = λ b. (w.headless b, m.headless (w.begun b));
       })
 
-  message_line : {x : Step} → step_of st t ≡ x → x.state.form ≡ st.form → Lines st t x → PlainMessage x.state ts (n + x.count) total → PlainMessage st (t ∷ ts) n total
+  message_line : {x : Step} → step_of st t ≡ Ok x → x.state.form ≡ st.form → Lines st t x → PlainMessage x.state ts (n + x.count) total → PlainMessage st (t ∷ ts) n total
   message_line q f none m = message_none q m
   message_line q f (rows w) m = message_more q f w m
 
 -- a message that is accepted is accepted in plain form, with the same rows in the same groups
-pub message : (ts : List (List ℕ)) (st : State) (ln n total : ℕ) → judge_texts st ln n ts ≡ Accepted total → PlainMessage st ts n total
+pub message : (ts : List (List ℕ)) (st : State) (ln n total : ℕ) → judge_texts st ln n ts ≡ Ok total → PlainMessage st ts n total
 unfolding judge_texts plains items_texts groups_texts afterItems after
 message [] st ln n total e =
     record {
@@ -294,7 +301,7 @@ message [] st ln n total e =
     }
 message (t ∷ ts) st ln n total e =
     let w = first_right st ln n total t ts e in
-    message_line st t ts n total refl (form_kept st t w.0) (line st t w.0) (message ts _ (ln + 1) _ total w.1)
+    message_line st t ts n total w.1 (form_kept st t w.0 w.1) (line st t w.0 w.1) (message ts _ (ln + 1) _ total w.2)
 
 -- what is written of a message: its plain lines, an LF between them
 pub message_plain : {st : State} {ts ps : List (List ℕ)} {n total : ℕ} → Message st ts ps n total → plain st.form (items_texts st ts) ≡ drop 1 (after 10 ps)
@@ -315,13 +322,12 @@ pub record Opening (t : List ℕ) (st : State) (x : Step) : Type 0 where
   pub type : (is : List Item) → type_of (items_of x t ++ is) ≡ form_of t
 
 -- a heading line that is right opens a message
-pub opening : (t : List ℕ) → is_heading t ≡ true → let st = fresh_state (form_of t) in (step_of st t).verdict ≡ Right → Opening t st (step_of st t)
-opening t h r =
+pub opening : (t : List ℕ) → is_heading t ≡ true → let st = fresh_state (form_of t) in (x : Step) → step_of st t ≡ Ok x → Opening t st x
+opening t h x r =
     let f = form_of t in
     let st = fresh_state f in
-    let x = step_of st t in
-    let c = first_code f t h r in
-    let o = one_again st t r c.1 in
+    let c = first_code f t h x r in
+    let o = one_again st t x r c.1 in
     record {
       count = c.1;
       heading = rw (one_line st t c.1 o) (lead_head (heading_of t) x.code _ _ h c.0);

@@ -16,14 +16,13 @@ use Rattle.words.proofs.Laws.{begins-le}
 use Rattle.lines.specs.Text.{is_blank, blanks, cut_end, trim_of, moved, equals_at, sides_of, assignment_of, word_ends, comment_of}
 use Rattle.lines.specs.declared.Span.{Span}
 use Rattle.lines.specs.declared.Sides.{Sides}
-use Rattle.lines.specs.declared.Assignment.TheVariants as Assigns
-use Rattle.lines.specs.declared.Comment.TheVariants.{Value as CommentValue}
 use Rattle.lines.proofs.Laws.{cut_le, trim_is, trim_within}
 use Rattle.write.proofs.Readings.{whether, either}
 use Rattle.write.proofs.Names.{parted}
 use Rattle.written.proofs.Bytes.{run_past, pass_split, pass_part, at_run}
 use Rattle.step.specs.Step.{part}
 use Rattle.step.proofs.Laws.{part_length, trim_inside}
+use Rattle.std.specs.Prelude.{Some}
 
 abbrev pub span : ℕ → ℕ → Span
 span a b = record { from = a; to = b }
@@ -122,7 +121,7 @@ part-le p s = simp (length-take, length-drop) (omega arith)
 module _ (w v : List ℕ) where
   -- the parts of `w=v`
   pub assigned : first_at 61 w ≡ length w → Trimmed w → Trimmed v
-      → assignment_of (w ++ (61 ∷ v)) ≡ Assigns.Parted (record { keyword = span 0 (length w); value = span (length w + 1) (length w + 1 + length v) })
+      → assignment_of (w ++ (61 ∷ v)) ≡ Some (record { keyword = span 0 (length w); value = span (length w + 1) (length w + 1 + length v) })
   unfolding assignment_of sides_of run
   assigned h k q =
       let e : equals_at (w ++ (61 ∷ v)) ≡ length w = run_past (λ b. not (eqb b 61)) w (61 ∷ v) h ∙ add-zero (length w) in
@@ -143,7 +142,7 @@ pub record Sided (s : List ℕ) (x : Sides) : Type 0 where
   pub value : Trimmed (part x.value s)
   pub shorter : length (part x.keyword s) + 1 + length (part x.value s) ≤ length s
 
-pub sided : (s : List ℕ) (x : Sides) → assignment_of s ≡ Assigns.Parted x → Sided s x
+pub sided : (s : List ℕ) (x : Sides) → assignment_of s ≡ Some x → Sided s x
 unfolding sides_of
 sided s x e =
     let h = parted s x e in
@@ -161,15 +160,15 @@ sided s x e =
 
 -- ---- comments
 
-pub comment_empty : comment_of (bytes "COMMENT") ≡ CommentValue (span 7 7)
+pub comment_empty : comment_of (bytes "COMMENT") ≡ Some (span 7 7)
 unfolding comment_of bytes agrees run word_ends trim_of cut_end
 comment_empty = refl
 
 module _ (v : List ℕ) where
   -- `COMMENT v`
-  pub comment_plain : 0 < length v → Trimmed v → comment_of (bytes "COMMENT" ++ (32 ∷ v)) ≡ CommentValue (span 8 (8 + length v))
+  pub comment_plain : 0 < length v → Trimmed v → comment_of (bytes "COMMENT" ++ (32 ∷ v)) ≡ Some (span 8 (8 + length v))
   unfolding comment_of bytes agrees run word_ends
-  comment_plain h k = ap (λ (p : Span). CommentValue (moved 7 p)) (trim_blank v h k) ∙ ap (λ (n : ℕ). CommentValue (span 8 n)) (omega arith)
+  comment_plain h k = ap (λ (p : Span). Some (moved 7 p)) (trim_blank v h k) ∙ ap (λ (n : ℕ). Some (span 8 n)) (omega arith)
 
   pub comment_part : part (span 8 (8 + length v)) (bytes "COMMENT" ++ (32 ∷ v)) ≡ v
   unfolding bytes
@@ -195,11 +194,11 @@ word_shorter (b ∷ s) e h =
     let l = part_length (trim_of (b ∷ s)) (b ∷ s) (trim_inside (b ∷ s) _ refl) in
     omega (arith, blank_first (cut_end (b ∷ s)) b s e (omega arith), cut_le (b ∷ s))
 
-pub commented : (s : List ℕ) (p : Span) → comment_of s ≡ CommentValue p → Commented s p
+pub commented : (s : List ℕ) (p : Span) → comment_of s ≡ Some p → Commented s p
 unfolding comment_of bytes
 commented s p =
     let n = blanks s + 7 in
-    whether (λ c. c ≡ CommentValue p → Commented s p) (begins (bytes "COMMENT") (drop (blanks s) s) && word_ends (drop n s))
+    whether (λ c. c ≡ Some p → Commented s p) (begins (bytes "COMMENT") (drop (blanks s) s) && word_ends (drop n s))
     (λ t.
     let b = (and-eq-true_iff (begins (bytes "COMMENT") (drop (blanks s) s)) _).0 t in
     let room : n ≤ length s = omega (arith, begins-le _ (drop (blanks s) s) b.0, length-drop (blanks s) s) in

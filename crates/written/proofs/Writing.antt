@@ -18,7 +18,6 @@ use Rattle.step.specs.declared.State.{State}
 use Rattle.step.specs.declared.Step.{Step}
 use Rattle.step.proofs.Sound.{spans}
 use Rattle.judge.specs.Message.{is_heading, form_of, from_heading, headings, up_to, message_of, texts, judge_texts, judge_lines, feed_limit, judge_of, group_of, rows_at, rows_from, rows_lines, rows_of, FoundIs}
-use Rattle.judge.specs.declared.Judged.TheVariants.{Accepted}
 use Rattle.judge.specs.declared.Row.{Row}
 use Rattle.judge.proofs.Laws.{accepted_short, not_missing}
 use Rattle.write.specs.Plain.{Item, item, item_of, plain, type_of, plain_of}
@@ -29,7 +28,9 @@ use Rattle.write.proofs.Heads.{from_head, first_right}
 use Rattle.written.proofs.Bytes.{after}
 use Rattle.written.proofs.Joined.{lines_joined, Stands, from_stand, Fits, Begins, found}
 use Rattle.written.proofs.Spaced.{parts}
-use Rattle.written.proofs.PlainTexts.{items_in, items_texts, groups_texts, plain_line, plains, plains_more, Message, message, message_plain, Opening, opening}
+use Rattle.written.proofs.PlainTexts.{items_in, items_of, items_texts, groups_texts, plain_line, plains, plains_more, Message, message, message_plain, Opening, opening}
+use Rattle.std.specs.Prelude.{Result, Ok, Err}
+use Rattle.reasons.specs.declared.Reason.{Reason}
 
 -- ---- rows are what the lines' texts say
 
@@ -63,13 +64,30 @@ module _ (f : List ℕ) where
   rows-texts : (ls : List Line) → Each (Stands f) ls → (st : State) (g line : ℕ) → Rows (rows_from st g line ls) (items_texts st (texts ls)) (groups_texts st g (texts ls))
   unfolding rows_from items_texts groups_texts
   rows-texts [] h st g line = (refl, refl)
-  rows-texts (l ∷ ls) h st g line =
-      let x = step_of st l.text in
-      let w = spans st l.text in
-      let j = group_of st.form g x.code in
-      let r = rows_at_lem l h.0 j line x.count x.spans x.code (omega (arith, w.few, w.size)) w.inside in
-      let ih = rows-texts ls h.1 x.state j (line + 1) in
-      (rw (map-append, r.0, ih.0), rw (map-append, r.1, ih.1))
+  rows-texts (l ∷ ls) h st g line = go (step_of st l.text) refl (λ u j. rows-texts ls h.1 u j (line + 1))
+    where
+      go : (y : Result Step Reason) → step_of st l.text ≡ y → ((u : State) (j : ℕ) → Rows (rows_from u j (line + 1) ls) (items_texts u (texts ls)) (groups_texts u j (texts ls)))
+          → Rows
+          (elim y [
+            | Err r ↦ rows_from st g (line + 1) ls
+            | Ok x ↦
+                let j = group_of st.form g x.code in
+                rows_at x.code j line l.start (take x.count x.spans) ++ rows_from x.state j (line + 1) ls
+          ])
+          (elim y [ Err r ↦ items_texts st (texts ls) | Ok x ↦ items_of x l.text ++ items_texts x.state (texts ls) ])
+          (elim y [
+            | Err r ↦ groups_texts st g (texts ls)
+            | Ok x ↦
+                let j = group_of st.form g x.code in
+                replicate x.count j ++ groups_texts x.state j (texts ls)
+          ])
+      go (Err r) q ih = ih st g
+      go (Ok x) q ih =
+          let w = spans st l.text x q in
+          let j = group_of st.form g x.code in
+          let r = rows_at_lem l h.0 j line x.count x.spans x.code (omega (arith, w.few, w.size)) w.inside in
+          let i = ih x.state j in
+          (rw (map-append, r.0, i.0), rw (map-append, r.1, i.1))
 
 -- the judgement and the rows of message k, from its lines' texts
 pub record Shows (f : List ℕ) (k : ℕ) (st : State) (ts : List (List ℕ)) : Type 0 where
@@ -111,10 +129,10 @@ alone o t p ps g h r (l ∷ ls) q e =
 
 abbrev Known : List ℕ → ℕ → ℕ → List ℕ → Type 0
 Known f k n o =
-    ((judge_of o 1 ≡ Accepted n) × (map (item_of o) (rows_of o 1) ≡ map (item_of f) (rows_of f k)) × (map (λ (r : Row). r.group) (rows_of o 1) ≡ map (λ (r : Row). r.group) (rows_of f k)))
+    ((judge_of o 1 ≡ Ok n) × (map (item_of o) (rows_of o 1) ≡ map (item_of f) (rows_of f k)) × (map (λ (r : Row). r.group) (rows_of o 1) ≡ map (λ (r : Row). r.group) (rows_of f k)))
     × (headings (lines o) ≡ 1) × (length o ≤ message_bytes f k)
 
-module _ (f : List ℕ) (k n : ℕ) (e : judge_of f k ≡ Accepted n) where
+module _ (f : List ℕ) (k n : ℕ) (e : judge_of f k ≡ Ok n) where
   module _ (l : Line) (ls : List Line) (q : from_heading k (lines f) ≡ l ∷ ls) (h : Fits f l ls) where
     abbrev t : List ℕ
     t = l.text
@@ -128,18 +146,21 @@ module _ (f : List ℕ) (k n : ℕ) (e : judge_of f k ≡ Accepted n) where
     abbrev st : State
     st = fresh_state (form_of t)
 
-    abbrev x : Step
-    x = step_of st t
-
     read : Shows f k st (t ∷ ts)
     unfolding message_of up_to
     read = shows f k l (up_to false ls) (rw q) t refl
 
-    right : judge_texts st 1 0 (t ∷ ts) ≡ Accepted n
+    right : judge_texts st 1 0 (t ∷ ts) ≡ Ok n
     right = sym (read.judged (accepted_short f k n e)) ∙ e
 
+    first : (x : Step) × (step_of st t ≡ Ok x) × (judge_texts x.state 2 (0 + x.count) ts ≡ Ok n)
+    first = first_right st 1 0 n t ts right
+
+    abbrev x : Step
+    x = first.0
+
     opened : Opening t st x
-    opened = opening t heading (first_right st 1 0 n t ts right).0
+    opened = opening t heading x first.1
 
     abbrev p : List ℕ
     p = plain_line st x t
@@ -148,18 +169,20 @@ module _ (f : List ℕ) (k n : ℕ) (e : judge_of f k ≡ Accepted n) where
     ps = plains x.state ts
 
     same : Message st (t ∷ ts) (p ∷ ps) 0 n
-    same = rw (plains_more st t ts (λ z. omega (arith, opened.count))) at (message (t ∷ ts) st 1 0 n right)
+    same = rw (plains_more st t ts x first.1 (λ z. omega (arith, opened.count))) at (message (t ∷ ts) st 1 0 n right)
 
     written : plain_of f k ≡ p ++ after 10 ps
     unfolding plain_of items_texts after
-    written = rw read.rows.0 (rw (opened.type (items_texts x.state ts)) (message_plain same))
+    written =
+        let i : items_texts st (t ∷ ts) ≡ items_of x t ++ items_texts x.state ts = rw (first.1, items_texts) in
+        rw read.rows.0 (rw (ap type_of i ∙ opened.type (items_texts x.state ts)) (message_plain same))
 
     known_of : Known f k n (plain_of f k)
     unfolding after bytes_from
     known_of =
         let m = same in
         let s = m.shorter in
-        let o = alone (p ++ after 10 ps) t p ps opened.heading heading ((message ts _ _ _ n (first_right st 1 0 n t ts right).1).headless opened.begun) _ refl (lines_joined p ps m.whole.0 m.whole.1) in
+        let o = alone (p ++ after 10 ps) t p ps opened.heading heading ((message ts _ _ _ n first.2).headless opened.begun) _ refl (lines_joined p ps m.whole.0 m.whole.1) in
         let b : length (p ++ after 10 ps) ≤ next_heading (length f) ls - l.start = omega (arith, length-append t (after 10 ts), h.0) in
         rw (written, q) (
           (o.1.judged (omega (arith, h.1, accepted_short f k n e)) ∙ m.judged 1, o.1.rows.0 ∙ m.items ∙ sym read.rows.0, o.1.rows.1 ∙ m.groups 0 ∙ sym read.rows.1),

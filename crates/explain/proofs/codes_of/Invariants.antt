@@ -1,6 +1,6 @@
 -- `explain::codes_of` meets its contract: the codes gathered, then those from here on, are those of the whole.
 -- Assumes nothing.
-use Prim.Native.Nat.{ℕ, ◌-◌, ◌≤◌}
+use Prim.Native.Nat.{ℕ, ◌-◌}
 use mathlib.Core.Path.{◌≡◌}
 use mathlib.Core.Bool.{Bool, ◌&&◌}
 use Rattle.grammar.specs.Order.{allows}
@@ -8,8 +8,5 @@ use Rattle.explain.specs.Codes.{can_begin, those, gathered}
 use Rattle.explain.proofs.codes_of.Given as goal
 
 abbrev pub invariant-loop-code : goal.invariant-loop-code
-invariant-loop-code l = let p : ℕ → Bool = λ c. can_begin l.form c && allows l.next c in
-    (1 ≤ l.code) × (l.code ≤ 46) × (gathered l.initial.x (those p 1 45) ≡ gathered l.x (those p l.code (46 - l.code)))
-
-abbrev pub decreases-loop-code : goal.decreases-loop-code
-decreases-loop-code l = 46 - l.code
+invariant-loop-code l = let p : ℕ → Bool = λ c. can_begin l.state.form c && allows l.next c in
+    gathered l.initial.codes (those p 1 45) ≡ gathered l.codes (those p l.code (46 - l.code))

@@ -1,50 +1,26 @@
--- `judge::find_message` meets its contract. The invariant: the lines from the heading line sought are those from the one still to be counted.
+-- `judge::find_message` meets its contract: the chain gives the messages in turn, and the one asked stands behind those before it.
 -- Assumes nothing.
-use mathlib.Core.Path.{refl, sym, ◌∙◌}
-use native.Mathlib.Omega.{arith}
-use Rattle.lines.specs.Feed.{lines}
-use Rattle.lines.proofs.Lists.{Placed, placed}
-use Rattle.judge.specs.Message.{found_of, FoundIs}
-use Rattle.judge.proofs.Laws.{over_from, from_none, from_passed}
+use mathlib.Core.Path.{◌≡◌, sym, ap, ◌∙◌}
+use Prim.Native.Nat.{◌+◌}
+use borrow.Author.Tests.{tests}
+use Rattle.std.proofs.Common.{rules}
+use Rattle.std.proofs.lemmas.Iterator.Adapters.{option_map_id}
+use Rattle.std.proofs.lemmas.Iterator.Consumers.{YieldsList-from_first, YieldsList-from_filter_map, nth_from_yields_List}
+use Rattle.lines.specs.Feed.{line_of, lines_left, lines}
+use Rattle.judge.specs.Message.{from_heading, found_of, opened_by}
+use Rattle.judge.proofs.Laws.{found_nth, found_is}
 use Rattle.judge.proofs.find_message.Goals as goal
 
-pub returns-then-message-eq0 : goal.returns-then-message-eq0
-unfolding FoundIs found_of
-returns-then-message-eq0 c = let e = from_none (lines c.args.feed.now) in
-    record { answer = rw c.if-message-eq0.true (rw e); lines = rw c.if-message-eq0.true e }
+pub returns-clause-answer : goal.returns-clause-answer
+returns-clause-answer c =
+    let behind : c.in_ok-before.before + 1 ≡ c.args.message = search rules in
+    sym (option_map_id _)
+    ∙ nth_from_yields_List c.nth.result c.nth.new.self _ c.nth.ensures.ran
+    (YieldsList-from_filter_map _ opened_by
+    (YieldsList-from_first line_of lines_left _ (ap lines_left c.filter_map.ensures.source ∙ c.lines_of.ensures))
+    c.filter_map.ensures.closure (λ x r q k. search (rules, tests)))
+    ∙ found_nth c.in_ok-before.before (lines c.args.feed.now)
+    ∙ ap (λ k. found_of (from_heading k (lines c.args.feed.now))) behind
 
-pub loop-at-init : goal.loop-at-init
-loop-at-init c = (refl, omega arith, omega arith)
-
-pub slice_bounds-text-count : goal.slice_bounds-text-count
-slice_bounds-text-count c =
-    let here : Placed c.args.feed.now c.loop-at.at c.line_at-ends.result = placed _ _ _ c.loop-at-test.true c.line_at-ends.ensures in
-    omega (arith, here)
-
-pub slice_bounds-text-start : goal.slice_bounds-text-start
-slice_bounds-text-start c =
-    let here : Placed c.args.feed.now c.loop-at.at c.line_at-ends.result = placed _ _ _ c.loop-at-test.true c.line_at-ends.ensures in
-    omega (arith, here)
-
-pub slice_bounds-text-end : goal.slice_bounds-text-end
-slice_bounds-text-end c =
-    let here : Placed c.args.feed.now c.loop-at.at c.line_at-ends.result = placed _ _ _ c.loop-at-test.true c.line_at-ends.ensures in
-    omega (arith, here)
-
-pub loop-at-smaller : goal.loop-at-smaller
-loop-at-smaller c =
-    let here : Placed c.args.feed.now c.loop-at.at c.line_at-ends.result = placed _ _ _ c.loop-at-test.true c.line_at-ends.ensures in
-    omega (arith, here)
-
-pub loop-at-preserved : goal.loop-at-preserved
-loop-at-preserved c =
-    let here : Placed c.args.feed.now c.loop-at.at c.line_at-ends.result = placed _ _ _ c.loop-at-test.true c.line_at-ends.ensures in (
-      c.loop-at.invariant.0 ∙ from_passed _ _ _ c.loop-at-test.true c.line_at-ends.ensures _
-          (sym c.is_heading.ensures ∙ c.if-is_heading.false),
-      omega arith,
-      omega (arith, here),
-    )
-
-pub returns : goal.returns
-unfolding FoundIs found_of
-returns c = let e = c.loop-at.invariant.0 ∙ over_from _ _ c.loop-at-test.false _ in record { answer = rw e; lines = e }
+pub returns-clause-lines : goal.returns-clause-lines
+returns-clause-lines c = found_is _ _ _ (returns-clause-answer c)

@@ -1,13 +1,17 @@
 -- `judge::judge` meets its contract: the judgement of the message sighted.
 -- Assumes nothing.
-use mathlib.Core.Path.{sym}
+use mathlib.Core.Path.{◌≡◌, sym, ◌∙◌}
+use Rattle.std.specs.Prelude.{Err}
+use Rattle.std.proofs.Common.{rules}
 use Rattle.judge.specs.Message.{SightedIs}
 use Rattle.judge.proofs.judge.Goals as goal
 
-pub returns-in-Right : goal.returns-in-Right
+pub returns-in_err-sight : goal.returns-in_err-sight
 unfolding SightedIs
-returns-in-Right c = sym (rw c.in-Right.is at c.sight.ensures.judged).0
+returns-in_err-sight c =
+    let z : c.from_residual.result ≡ Err c.in_err-sight.field-0.0 = search rules in
+    z ∙ sym (rw c.in_err-sight.was at c.sight.ensures.judged)
 
-pub returns-in-Wrong : goal.returns-in-Wrong
+pub returns : goal.returns
 unfolding SightedIs
-returns-in-Wrong c = sym (rw c.in-Wrong.is at c.sight.ensures.judged)
+returns c = sym (rw c.in_ok-sight.was at c.sight.ensures.judged).0

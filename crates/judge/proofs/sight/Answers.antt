@@ -1,33 +1,48 @@
--- `judge::sight` meets its contract: the feed's length, then the message found and judged from its place.
+-- `judge::sight` meets its contract: the message found, then judged from its place.
 -- Assumes nothing.
-use mathlib.Core.Path.{◌≡◌, sym, ◌∙◌}
-use Rattle.judge.specs.Message.{judge_of, FoundIs}
-use Rattle.judge.specs.declared.Found.TheVariants.{Place}
-use Rattle.judge.proofs.Laws.{judge_long, judge_missing, judge_found, sighted-wrong, sighted-right}
+use mathlib.Core.Path.{◌≡◌, sym, ap, ◌∙◌}
+use Rattle.std.specs.Prelude.{Err}
+use Rattle.std.proofs.Common.{rules}
+use Rattle.judge.specs.Message.{of_feed, judged_by}
+use Rattle.judge.proofs.Laws.{sought_in, judge_stopped, sighted-wrong, sighted-right}
 use Rattle.judge.proofs.sight.Goals as goal
 
-pub returns-then-feed-gt-FEED_LIMIT : goal.returns-then-feed-gt-FEED_LIMIT
-returns-then-feed-gt-FEED_LIMIT c =
-    let w = sighted-wrong c.args.feed.now c.args.message _ _ (judge_long _ _ c.if-feed-gt-FEED_LIMIT.true) in
-    record { answer = w.0; judged = w.1 }
+pub returns-in_err-found-clause-answer : goal.returns-in_err-found-clause-answer
+returns-in_err-found-clause-answer c =
+    let z : c.from_residual.result ≡ Err (of_feed c.in_err-found.field-0.0) = search rules in
+    z ∙ (sighted-wrong _ _ _ c.in_err-found.ensures.missing.judged).0
 
--- `judged`: what is judged from the place where the message is found is its judgement
-pub returns-in-Accepted : goal.returns-in-Accepted
-returns-in-Accepted c =
-    let judged : (judge_of c.args.feed.now c.args.message ≡ c.judge_from.result) × FoundIs (Place c.in-Place.at c.in-Place.form) c.args.message c.args.feed.now = let w = rw c.in-Place.is at c.find_message.ensures.lines in
-    (judge_found _ _ c.if-feed-gt-FEED_LIMIT.false _ _ w ∙ sym c.judge_from.ensures, w) in
-    let w = judged in
-    let z = sighted-right _ _ _ _ _ (w.0 ∙ c.in-Accepted.is) (sym c.in-Place.is ∙ c.find_message.ensures.answer) w.1 in
-    record { answer = z.0; judged = z.1 }
+pub returns-in_err-found-clause-judged : goal.returns-in_err-found-clause-judged
+returns-in_err-found-clause-judged c =
+    let z : c.from_residual.result ≡ Err (of_feed c.in_err-found.field-0.0) = search rules in
+    rw z (sighted-wrong _ _ _ c.in_err-found.ensures.missing.judged).1
 
-pub returns-in-Refused : goal.returns-in-Refused
-returns-in-Refused c =
-    let judged : (judge_of c.args.feed.now c.args.message ≡ c.judge_from.result) × FoundIs (Place c.in-Place.at c.in-Place.form) c.args.message c.args.feed.now = let w = rw c.in-Place.is at c.find_message.ensures.lines in
-    (judge_found _ _ c.if-feed-gt-FEED_LIMIT.false _ _ w ∙ sym c.judge_from.ensures, w) in
-    let z = sighted-wrong _ _ _ _ (judged.0 ∙ c.in-Refused.is) in
-    record { answer = z.0; judged = z.1 }
+pub walk_from-requires : goal.walk_from-requires
+walk_from-requires c = let w = c.in_ok-found.ensures.found in (w.short, sought_in _ _ _ w)
 
-pub returns-in-Missing : goal.returns-in-Missing
-returns-in-Missing c =
-    let z = sighted-wrong _ _ _ _ (judge_missing _ _ c.if-feed-gt-FEED_LIMIT.false (rw c.in-Missing.is at c.find_message.ensures.lines)) in
-    record { answer = z.0; judged = z.1 }
+-- `judged`: what the walk's end says is the judgement
+pub returns-in_err-rows-clause-answer : goal.returns-in_err-rows-clause-answer
+returns-in_err-rows-clause-answer c =
+    let w = c.in_ok-found.ensures.found in
+    let judged = judge_stopped _ _ w.short _ w.lines ∙ ap judged_by (sym c.walk_from.ensures) ∙ sym c.judged.ensures in
+    let z : c.from_residual-in_err-rows.result ≡ Err c.in_err-rows.field-0.0 = search rules in
+    z ∙ (sighted-wrong _ _ _ (judged ∙ c.in_err-rows.was)).0
+
+pub returns-in_err-rows-clause-judged : goal.returns-in_err-rows-clause-judged
+returns-in_err-rows-clause-judged c =
+    let w = c.in_ok-found.ensures.found in
+    let judged = judge_stopped _ _ w.short _ w.lines ∙ ap judged_by (sym c.walk_from.ensures) ∙ sym c.judged.ensures in
+    let z : c.from_residual-in_err-rows.result ≡ Err c.in_err-rows.field-0.0 = search rules in
+    rw z (sighted-wrong _ _ _ (judged ∙ c.in_err-rows.was)).1
+
+pub returns-clause-answer : goal.returns-clause-answer
+returns-clause-answer c =
+    let w = c.in_ok-found.ensures.found in
+    let judged = judge_stopped _ _ w.short _ w.lines ∙ ap judged_by (sym c.walk_from.ensures) ∙ sym c.judged.ensures in
+    (sighted-right _ _ _ _ (judged ∙ c.in_ok-rows.was) w.place w.lines).0
+
+pub returns-clause-judged : goal.returns-clause-judged
+returns-clause-judged c =
+    let w = c.in_ok-found.ensures.found in
+    let judged = judge_stopped _ _ w.short _ w.lines ∙ ap judged_by (sym c.walk_from.ensures) ∙ sym c.judged.ensures in
+    (sighted-right _ _ _ _ (judged ∙ c.in_ok-rows.was) w.place w.lines).1

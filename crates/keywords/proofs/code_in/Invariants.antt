@@ -1,12 +1,8 @@
--- `keywords::code_in` meets its contract: from the place on, the group holds keywords of the text's length, and the text's code is its code among these.
+-- `keywords::code_in` meets its contract: the text's code is its code among the keywords from the place on.
 -- Assumes nothing.
-use Prim.Native.Nat.{◌-◌}
-use lib.ListN.{length}
-use Rattle.keywords.proofs.Group.{Walk}
+use Rattle.std.proofs.Common.{◌≡◌, drop}
+use Rattle.keywords.specs.Keywords.{keywords, code_in, entries}
 use Rattle.keywords.proofs.code_in.Given as goal
 
-abbrev pub invariant-loop-i : goal.invariant-loop-i
-invariant-loop-i l = Walk l.group l.text l.i
-
-abbrev pub decreases-loop-i : goal.decreases-loop-i
-decreases-loop-i l = length l.group - l.i
+abbrev pub invariant-loop-code : goal.invariant-loop-code
+invariant-loop-code l = code_in (entries (drop l.code-index l.group)) l.text ≡ code_in keywords l.text

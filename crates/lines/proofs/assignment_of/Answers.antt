@@ -6,7 +6,7 @@ use Rattle.lines.proofs.assignment_of.Goals as goal
 
 pub returns-then-n-text : goal.returns-then-n-text
 unfolding assignment_of
-returns-then-n-text c = rw (c.sides_of-sides.ensures, c.byte_at-n.ensures) (rw (rw c.byte_at-n.ensures at (lt-ltb _ _ c.if-n-text.true), assignment_of))
+returns-then-n-text c = rw (c.sides_of.ensures, c.byte_at-n.ensures) (rw (rw c.byte_at-n.ensures at (lt-ltb _ _ c.if-n-text.true), assignment_of))
 
 pub returns : goal.returns
 unfolding assignment_of

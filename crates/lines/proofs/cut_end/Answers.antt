@@ -1,20 +1,21 @@
--- `lines::cut_end` meets its contract: a blank at the end is cut, and the first other byte from the end stops the walk.
+-- `lines::cut_end` meets its contract: the blanks taken from the end are those that are cut.
 -- Assumes nothing.
-use mathlib.Core.Path.{sym, ap, ◌∙◌}
+use mathlib.Core.Path.{ap, ◌∙◌}
 use native.Mathlib.Omega.{arith}
-use lib.Seq.{take-length}
-use Rattle.lines.specs.Text.{cut_end}
-use Rattle.lines.proofs.Laws.{cut_blank, cut_stop, cut_start}
+use Rattle.std.specs.Iterator.Adapters.{rev_source}
+use Rattle.std.specs.Prelude.{reverse}
+use Rattle.std.specs.Slice.Iter.{iter_rest}
+use Rattle.std.proofs.Common.{rules, tests}
+use Rattle.std.proofs.lemmas.Iterator.Adapters.{YieldsList-from_rev_slice}
+use Rattle.std.proofs.lemmas.Iterator.Consumers.{count_from_yields_List}
+use Rattle.std.proofs.lemmas.Iterator.Search.{YieldsList-from_take_while}
+use Rattle.std.proofs.lemmas.List.Folds.{length-prefix_len}
+use Rattle.lines.specs.Text.{is_blank}
+use Rattle.lines.proofs.Laws.{cut-is}
 use Rattle.lines.proofs.cut_end.Goals as goal
 
-pub loop-end-init : goal.loop-end-init
-loop-end-init c = (omega arith, ap cut_end (sym (take-length _)))
-
-pub returns-then-text-end-ne32 : goal.returns-then-text-end-ne32
-returns-then-text-end-ne32 c = sym (c.loop-end.invariant.1 ∙ cut_stop _ _ c.loop-end.invariant.0 c.loop-end-test.true c.if-text-end-ne32.true)
-
-pub loop-end-preserved : goal.loop-end-preserved
-loop-end-preserved c = (omega arith, c.loop-end.invariant.1 ∙ cut_blank _ _ c.loop-end.invariant.0 c.loop-end-test.true c.if-text-end-ne32.false)
-
 pub returns : goal.returns
-returns c = sym (c.loop-end.invariant.1 ∙ cut_start _ _ c.loop-end-test.false)
+returns c = let s = c.args.text.now in
+    let items = ap (λ r. iter_rest (rev_source r)) c.take_while.ensures.source ∙ ap iter_rest c.rev.ensures.source ∙ c.iter.ensures.rest in
+    let e = count_from_yields_List c.take_while.result _ c.count.ensures.ran (YieldsList-from_take_while _ (λ b. is_blank b) (YieldsList-from_rev_slice s items) c.take_while.ensures.closure c.take_while.ensures.done (λ x b q k. search (rules, tests))) in
+    omega (arith, e, length-prefix_len (λ b. is_blank b) (reverse s), cut-is s)

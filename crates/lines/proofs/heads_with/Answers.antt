@@ -8,17 +8,17 @@ use native.Mathlib.Omega.{arith}
 use Rattle.lines.proofs.Laws.{heads_no, heads_yes}
 use Rattle.lines.proofs.heads_with.Goals as goal
 
-pub returns-then-not-begins_at : goal.returns-then-not-begins_at
-returns-then-not-begins_at c = sym (heads_no _ _ _ c.blanks_end-at.ensures (sym c.begins_at.ensures ∙ c.if-not-begins_at.true))
+pub returns-else-begins_at : goal.returns-else-begins_at
+returns-else-begins_at c = let e = c.if-begins_at.false in
+    e ∙ sym (heads_no _ _ _ c.blanks_end-at.ensures (sym c.begins_at.ensures ∙ e))
 
 pub overflow_add-at : goal.overflow_add-at
 overflow_add-at c = let a = c.args in
     let at = c.blanks_end-at.result in
-    let e = sym c.begins_at.ensures ∙ c.if-not-begins_at.false in
-    omega (arith, begins-le a.word.now (drop at a.text.now) e, length-drop at a.text.now)
+    omega (arith, begins-le a.word.now (drop at a.text.now) (sym c.begins_at.ensures ∙ c.if-begins_at.true), length-drop at a.text.now)
 
-pub returns : goal.returns
+pub returns-then-begins_at : goal.returns-then-begins_at
 unfolding bytes
-returns c = let a = c.args in
-    c.begins_at-2.ensures
-    ∙ sym (heads_yes a.word.now a.text.now _ c.blanks_end-at.ensures _ (sym c.begins_at.ensures ∙ c.if-not-begins_at.false) c.blanks_end-equals.ensures)
+returns-then-begins_at c = let a = c.args in
+    c.begins_at-then-begins_at.ensures
+    ∙ sym (heads_yes a.word.now a.text.now _ c.blanks_end-at.ensures _ (sym c.begins_at.ensures ∙ c.if-begins_at.true) c.blanks_end.ensures)

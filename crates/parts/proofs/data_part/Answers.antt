@@ -1,24 +1,8 @@
--- `parts::data_part` meets its contract: the epoch, or the first of the others that is wrong.
+-- `parts::data_part` meets its contract: the first of the others that is wrong.
 -- Assumes nothing.
-use mathlib.Core.Path.{◌∙◌}
-use Rattle.step.proofs.Laws.{fields_inside}
-use Rattle.parts.proofs.Laws.{data_bad, data_later}
+use Rattle.std.proofs.Common.{rules}
+use Rattle.parts.proofs.Laws.{data_later}
 use Rattle.parts.proofs.data_part.Goals as goal
 
-pub slice_bounds-epoch_of-count : goal.slice_bounds-epoch_of-count
-slice_bounds-epoch_of-count c = ((fields_inside _ _ c.fields_of-f.ensures).inside 0).order
-
-pub slice_bounds-epoch_of-start : goal.slice_bounds-epoch_of-start
-slice_bounds-epoch_of-start c = ((fields_inside _ _ c.fields_of-f.ensures).inside 0).order
-
-pub slice_bounds-epoch_of-end : goal.slice_bounds-epoch_of-end
-slice_bounds-epoch_of-end c = ((fields_inside _ _ c.fields_of-f.ensures).inside 0).end
-
-pub first_wrong-requires : goal.first_wrong-requires
-first_wrong-requires c = fields_inside _ _ c.fields_of-f.ensures
-
-pub returns-in-Bad : goal.returns-in-Bad
-returns-in-Bad c = data_bad _ _ _ _ c.fields_of-f.ensures c.epoch_of.ensures c.in-Bad.is
-
-pub returns-in-At : goal.returns-in-At
-returns-in-At c = c.first_wrong.ensures ∙ data_later _ _ _ _ c.fields_of-f.ensures c.epoch_of.ensures c.in-At.is
+pub returns-in-Some : goal.returns-in-Some
+returns-in-Some c = rw (← data_later c.args.state c.args.text.now _ c.in-Some.field-0 c.wrong.result c.fields_of-fields.ensures (search rules) (search rules)) (search rules)

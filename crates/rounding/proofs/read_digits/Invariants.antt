@@ -1,13 +1,9 @@
--- `rounding::read_digits` meets its contract: the sum so far goes on to what the whole says, which is no less than the sum and fits.
+-- `rounding::read_digits` sums digit by digit: what the sum so far goes on to is what the whole text says.
 -- Assumes nothing.
-use Prim.Native.Nat.{◌-◌}
 use mathlib.Core.Path.{◌≡◌}
-use lib.ListN.{length, drop}
+use lib.ListN.{drop}
 use Rattle.values.specs.Number.{digits_from}
 use Rattle.rounding.proofs.read_digits.Given as goal
 
-abbrev pub invariant-loop-i : goal.invariant-loop-i
-invariant-loop-i l = digits_from l.v l.text ≡ digits_from l.w (drop l.i l.text)
-
-abbrev pub decreases-loop-i : goal.decreases-loop-i
-decreases-loop-i l = length l.text - l.i
+abbrev pub invariant-loop-b : goal.invariant-loop-b
+invariant-loop-b l = digits_from l.v l.text ≡ digits_from l.value (drop l.b-index l.text)

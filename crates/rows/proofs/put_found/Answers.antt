@@ -8,7 +8,7 @@ use Rattle.rows.proofs.put_found.Goals as goal
 
 pub returns-then-table-rows : goal.returns-then-table-rows
 unfolding table_after
-returns-then-table-rows c = record { answer = no_room _ _ c.if-table-rows.true; table = refl }
+returns-then-table-rows c = record { answer = rw c.into.ensures (no_room _ _ c.if-table-rows.true); table = refl }
 
 pub returns : goal.returns
 unfolding table_after

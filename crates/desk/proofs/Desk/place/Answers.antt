@@ -10,7 +10,7 @@ use Rattle.desk.proofs.Desk.place.Goals as goal
 pub returns-then-self-eq-TOP_LOAD : goal.returns-then-self-eq-TOP_LOAD
 unfolding table_after
 returns-then-self-eq-TOP_LOAD c = let e = place_spent _ _ _ _ c.if-self-eq-TOP_LOAD.true in
-    record { answer = sym e; table = rw e }
+    record { answer = rw c.into.ensures (sym e); table = rw e }
 
 pub returns : goal.returns
 returns c =

@@ -7,13 +7,13 @@ use Rattle.desk.specs.Placing.{part_heard}
 use Rattle.desk.proofs.Reading.{spoken_within}
 use Rattle.desk.proofs.Desk.value.Goals as goal
 
-pub slice_bounds-result-end-in-Spoken : goal.slice_bounds-result-end-in-Spoken
-slice_bounds-result-end-in-Spoken c = omega (arith, spoken_within _ _ _ _ _ (sym c.read.ensures ∙ c.in-Spoken.is))
+pub slice_bounds-result-end-in-Ok : goal.slice_bounds-result-end-in-Ok
+slice_bounds-result-end-in-Ok c = omega (arith, spoken_within _ _ _ _ _ (sym c.read.ensures ∙ c.in-Ok.is))
 
-pub returns-in-Silent : goal.returns-in-Silent
+pub returns-in-Err : goal.returns-in-Err
 unfolding part_heard
-returns-in-Silent c = rw (sym c.read.ensures ∙ c.in-Silent.is)
+returns-in-Err c = rw (sym c.read.ensures ∙ c.in-Err.is)
 
-pub returns-in-Spoken : goal.returns-in-Spoken
+pub returns-in-Ok : goal.returns-in-Ok
 unfolding part_heard
-returns-in-Spoken c = rw (sym c.read.ensures ∙ c.in-Spoken.is, add-sub_cancel_left)
+returns-in-Ok c = rw (sym c.read.ensures ∙ c.in-Ok.is, add-sub_cancel_left)
