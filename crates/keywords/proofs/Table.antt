@@ -1,29 +1,25 @@
 -- The table of keywords by their length: an arm of a match for each length that a keyword has, and one for the rest.
 -- Assumes nothing.
-use Rattle.std.proofs.Common.{◌≡◌, refl, sym, ap, ◌∙◌, List, [], ◌∷◌, Bool, true, false, ◌&&◌, ◌||◌, ℕ, suc, eqb, nat_eq, length, Bor, drop, ◌<◌, ◌≤◌, ◌+◌}
-use Prim.Native.Nat.compare
-use native.Mathlib.Nat.{suc-ne-zero}
-use mathlib.Core.Bool.{and-false, false≢true}
+use Rattle.std.proofs.Common.{◌≡◌, refl, sym, ap, ◌∙◌, List, [], ◌∷◌, Bool, true, false, ◌&&◌, ◌||◌, ℕ, suc, eqb, nat_eq, length, Bor, drop, ◌<◌, ◌≤◌, ◌+◌, arith}
+use mathlib.Core.Bool.{false≢true}
 use native.Mathlib.Numerals.{add-one}
 use lib.ListN.{get_or, drop_of_length-le}
 use lib.Seq.{drop-cons}
 use borrow.Author.Tests.{eqb-true, ne_eqb}
-use Rattle.std.specs.Cmp.Lexicographic.{pointwise}
-use Rattle.std.specs.Prelude.{Some, None}
+use Rattle.std.specs.Option.{option_eq, option_copied}
+use Rattle.std.specs.List.{slice_get}
+use Rattle.std.specs.Prelude.{Option, Some, None}
 use Rattle.words.specs.Words.{agrees, is_word}
 use Rattle.keywords.specs.Keywords.{Entry, keywords, code_in, sized, entries}
 
--- a text is a word where `==` of slices says so
-same : (w s : List ℕ) → pointwise nat_eq s w ≡ is_word w s
+-- a word with another first letter is not the text
+pub unlike : (w s : List ℕ) (x y : Option (Bor ℕ)) → option_copied x ≡ slice_get s 0 → option_copied y ≡ slice_get w 0
+    → option_eq (λ (a b : Bor ℕ). nat_eq a.now b.now) x y ≡ false → false ≡ is_word w s
 unfolding is_word agrees
-same [] [] = refl
-same [] (b ∷ s) = rw (ne_eqb (suc (length s)) 0 (suc-ne-zero _))
-same (c ∷ w) [] = rw (ne_eqb 0 (suc (length w)) (λ e. suc-ne-zero _ (sym e)))
-same (c ∷ w) (b ∷ s) = go (eqb b c) (same w s)
-  where
-    go : (t : Bool) → pointwise nat_eq s w ≡ is_word w s → t && pointwise nat_eq s w ≡ eqb (suc (length s)) (suc (length w)) && (t && agrees (λ x y. eqb y x) w s)
-    go true e = rw (compare.suc-suc) e
-    go false e = sym (and-false _)
+unlike [] [] x y e f n = grind arith
+unlike [] (b ∷ s) x y e f n = grind arith
+unlike (c ∷ w) [] x y e f n = grind arith
+unlike (c ∷ w) (b ∷ s) x y e f n = grind arith
 
 -- only keywords of the text's length can be the text
 pub alike : (ks : List Entry) (s : List ℕ) → code_in (sized (length s) ks) s ≡ code_in ks s
@@ -48,14 +44,14 @@ module _ (g : List (ℕ × Bor (List ℕ))) (s : List ℕ) where
     walk_end h = rw (drop_of_length-le g h) at w
 
     module _ (d : ℕ × Bor (List ℕ)) (h : i < length g) where
-      turn : code_in (entries (drop i g)) s ≡ elim (pointwise nat_eq s (get_or g i d).1.now) [ true ↦ Some (get_or g i d).0 | false ↦ code_in (entries (drop (suc i) g)) s ]
+      turn : code_in (entries (drop i g)) s ≡ elim (is_word (get_or g i d).1.now s) [ true ↦ Some (get_or g i d).0 | false ↦ code_in (entries (drop (suc i) g)) s ]
       unfolding code_in entries
-      turn = rw (same (get_or g i d).1.now s, drop-cons g i d h)
+      turn = rw (drop-cons g i d h)
 
-      pub walk_hit : pointwise nat_eq s (get_or g i d).1.now ≡ true → Some (get_or g i d).0 ≡ code_in keywords s
+      pub walk_hit : is_word (get_or g i d).1.now s ≡ true → Some (get_or g i d).0 ≡ code_in keywords s
       walk_hit p = sym (rw p at turn) ∙ w
 
-      pub walk_more : pointwise nat_eq s (get_or g i d).1.now ≡ false → code_in (entries (drop (i + 1) g)) s ≡ code_in keywords s
+      pub walk_more : is_word (get_or g i d).1.now s ≡ false → code_in (entries (drop (i + 1) g)) s ≡ code_in keywords s
       walk_more p = rw (add-one i) (sym (rw p at turn) ∙ w)
 
 -- none of the arms' lengths, as the match leaves it: the last arm outermost

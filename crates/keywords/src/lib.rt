@@ -2,7 +2,15 @@
 #![tactic(auto)]
 
 ghost use Rattle.std.specs.Prelude.{◌≡◌, length};
+ghost use Rattle.words.specs.Words.{is_word};
 ghost use Rattle.keywords.specs.Keywords.{code_in, keywords, sized, entries};
+
+// Whether a text is a word of its length: only a word with the text's first letter is compared with it.
+fn is_it(word: &[u8], text: &[u8]) -> bool
+    ensures { result ≡ is_word word.now text.now }
+{
+    text.first() == word.first() && words::is_word(text, word)
+}
 
 // The code of the keyword that the text is among those of its length, where it is one; of `find` no proof closed at pairs that hold a reference.
 #[tactic(auto, using(crate::proofs::Table::walk_start))]
@@ -11,7 +19,7 @@ fn code_in(group: &[(u16, &[u8])], text: &[u8]) -> Option<u16>
     ensures { result ≡ code_in keywords text.now }
 {
     for (code, word) in group {
-        if text == *word {
+        if is_it(word, text) {
             return Some(*code);
         }
     }
