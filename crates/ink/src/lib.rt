@@ -69,6 +69,14 @@ impl<'a> Pen<'a> {
     {
         Pen { buffer, len: 0 }
     }
+
+    // How many bytes are there: what a caller that has no ruler goes on from.
+    pub fn len(&self) -> usize
+        ensures { result ≡ self.now.len }
+    {
+        let Pen { len, .. } = self;
+        *len
+    }
 }
 
 impl<'a> Ink for Pen<'a> {
