@@ -1,7 +1,7 @@
 // A value in words for a voice, written into a lent buffer. Every public function answers for any bytes.
 #![tactic(auto)]
 
-ghost use Rattle.std.specs.Prelude.{◌≡◌, ◌≤◌, length};
+ghost use Rattle.std.specs.Prelude.{◌≡◌, ◌≤◌, [], ◌∷◌, length};
 ghost use Rattle.spoken.specs.Saying.{said_by, mark_at, framed, words_by};
 ghost use Rattle.spoken.specs.Way.{epoch_way, way_in, way_of};
 ghost use Rattle.spoken.specs.Spoken.{fitted, spoken_of, words_of, buffer_after};
@@ -134,21 +134,22 @@ fn mark_at(manner: Manner, at: usize, byte: u8) -> Mark
     }
 }
 
-// A mark's words, or the byte itself.
+// A mark's words, or the byte itself: each arm puts bytes whose number is known there, since most bytes are themselves, and one is put in a tenth of what some take.
 #[tactic(auto, unfolding(words::specs::Words::bytes))]
-fn said_by(mark: Mark, itself: &[u8]) -> &[u8]
-    ensures { result.now ≡ said_by mark itself.now }
+fn put_mark<I: Ink>(ink: &mut I, mark: Mark, byte: u8)
+    requires { I.room ink.old (said_by mark (byte ∷ [])) }
+    ensures { ink.new ≡ I.after ink.old (said_by mark (byte ∷ [])) }
 {
     match mark {
-        Mark::Itself => itself,
-        Mark::Plus => b"plus ",
-        Mark::Minus => b"minus ",
-        Mark::Power => b" times ten to the ",
-        Mark::Month => b" month ",
-        Mark::Day => b" day ",
-        Mark::Clock => b", ",
-        Mark::Hours => b" hours ",
-        Mark::Minutes => b" minutes ",
+        Mark::Itself => ink.put(&[byte]),
+        Mark::Plus => ink.put(b"plus "),
+        Mark::Minus => ink.put(b"minus "),
+        Mark::Power => ink.put(b" times ten to the "),
+        Mark::Month => ink.put(b" month "),
+        Mark::Day => ink.put(b" day "),
+        Mark::Clock => ink.put(b", "),
+        Mark::Hours => ink.put(b" hours "),
+        Mark::Minutes => ink.put(b" minutes "),
     }
 }
 
@@ -170,7 +171,7 @@ fn put_words<I: Ink>(ink: &mut I, value: &[u8], manner: Manner)
 {
     ink.put(framed(manner, b"year "));
     for (at, &byte) in value.iter().enumerate() {
-        ink.put(said_by(mark_at(manner, at, byte), &[byte]));
+        put_mark(ink, mark_at(manner, at, byte), byte);
     }
     ink.put(framed(manner, b" seconds"));
 }
