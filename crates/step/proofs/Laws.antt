@@ -23,12 +23,14 @@ use Rattle.lines.proofs.Laws.{trim_within}
 use Rattle.grammar.specs.Keywords.{is_unit}
 use Rattle.lines.specs.declared.Form.{Form}
 use Rattle.lines.specs.declared.Form.TheVariants.{Opm, Oem}
-use Rattle.step.specs.Step.{part, Inside, SevenInside, are_numbers, word_len, number_of, no_row, one_row, past, fields_of, data_of, filled_of, step_of}
+use Rattle.step.specs.Step.{part, Inside, SevenInside, are_numbers, word_len, number_of, no_row, one_row, seven_rows, past, past_data, is_timely, fields_of, data_at, data_of, filled_of, step_of}
+use Rattle.epochs.specs.declared.Instant.{Instant}
+use Rattle.epochs.specs.Epoch.{epoch_of}
 use Rattle.step.specs.declared.State.{State}
 use Rattle.step.specs.declared.Step.{Step}
 use Rattle.reasons.specs.declared.Reason.{Reason}
 use Rattle.reasons.specs.declared.Reason.TheVariants as Reasons
-use Rattle.std.specs.Prelude.{Some, None, Result, Ok, Err, IsOk}
+use Rattle.std.specs.Prelude.{Option, Some, None, Result, Ok, Err, IsOk}
 
 -- ---- fields that are numbers
 
@@ -83,11 +85,18 @@ module _ (r : Reason) {x y : Result Step Reason} where
   spared false p e = p
 
 module _ (st : State) (s : List ℕ) where
+  pub data_right : (f : Fields) (t : Instant) → IsOk (data_at st f t s) → data_at st f t s ≡ Ok (seven_rows (past_data st t) f.spans)
+  unfolding data_at
+  data_right f t e = kept _ (is_timely st t) (kept _ (are_numbers (drop 1 f.spans) s) refl e) e
+
   pub step_right : IsOk (step_of st s) → step_of st s ≡ elim (eqb (trim_of s).to 0) [ true ↦ Ok (no_row st) | false ↦ filled_of st (trim_of s) s ]
   unfolding step_of
   step_right e = spared _ (ltb (odd_at s) (length s)) (spared _ (is_long s) refl e) e
 
 -- ---- an epoch read by one who found out whether second 60 may stand
+
+pub epoch_read : (v : List ℕ) (asked may : Bool) (e : Option Instant) → e ≡ epoch_of v asked → asked ≡ may → epoch_of v may ≡ e
+epoch_read v asked may e h k = sym (h ∙ ap (epoch_of v) k)
 
 -- ---- parts of a text
 

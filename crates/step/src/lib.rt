@@ -246,12 +246,24 @@ impl State {
         }
     }
 
-    // A data line whose epoch has been read.
-    #[tactic(auto, unfolding(crate::specs::Step::data_at))]
-    fn data_at(self, line: &DataLine, t: Instant, sure: bool) -> Result<Step, Reason>
-        requires { Sure sure (data_at self line.now.fields t line.now.text.now) }
-        ensures { result ≡ data_at self line.now.fields t line.now.text.now }
+    // A line that is no assignment: in an OEM, with seven fields, a data line; else nothing that has a form.
+    #[tactic(auto, using(crate::proofs::Laws::fields_inside), unfolding(crate::specs::Step::fields_of, crate::specs::Step::data_of, crate::specs::Step::data_at))]
+    fn fields(self, text: &[u8], sure: bool) -> Result<Step, Reason>
+        requires { Sure sure (fields_of self text.now) }
+        ensures { result ≡ fields_of self text.now }
     {
+        if let Form::Opm = self.form {
+            return Err(Reason::Form);
+        }
+        let fields = lines::fields_of(text);
+        if fields.count != 7 {
+            return Err(Reason::Form);
+        }
+        if !self.fits(9) {
+            return Err(Reason::Order);
+        }
+        let line = DataLine { text, fields };
+        let t = epoch_of(line.epoch().bytes(), self.sixty_stands(9)).ok_or(Reason::Value)?;
         if !sure {
             let numbers = line.are_numbers();
             let timely = self.is_timely(t);
@@ -262,43 +274,13 @@ impl State {
                 return Err(Reason::TimeOrder);
             }
         }
+        let spans = fields.spans;
         Ok(Step {
             state: self.past_data(t),
             code: 9,
             count: 7,
-            spans: line.fields.spans,
+            spans,
         })
-    }
-
-    // A line of seven fields in an OEM.
-    #[tactic(auto, unfolding(crate::specs::Step::data_of))]
-    fn data(self, line: &DataLine, sure: bool) -> Result<Step, Reason>
-        requires { Sure sure (data_of self line.now.fields line.now.text.now) }
-        ensures { result ≡ data_of self line.now.fields line.now.text.now }
-    {
-        if !self.fits(9) {
-            return Err(Reason::Order);
-        }
-        let t = epoch_of(line.epoch().bytes(), self.sixty_stands(9)).ok_or(Reason::Value)?;
-        self.data_at(line, t, sure)
-    }
-
-    // A line that is no assignment: a data line in an OEM, or nothing that has a form.
-    #[tactic(auto, using(crate::proofs::Laws::fields_inside), unfolding(crate::specs::Step::fields_of))]
-    fn fields(self, text: &[u8], sure: bool) -> Result<Step, Reason>
-        requires { Sure sure (fields_of self text.now) }
-        ensures { result ≡ fields_of self text.now }
-    {
-        match self.form {
-            Form::Opm => Err(Reason::Form),
-            Form::Oem => {
-                let fields = lines::fields_of(text);
-                if fields.count != 7 {
-                    return Err(Reason::Form);
-                }
-                self.data(&DataLine { text, fields }, sure)
-            }
-        }
     }
 
     // A line of this code and value has stood; of TIME_SYSTEM's the epochs after it need to know whether it is UTC.
@@ -432,18 +414,6 @@ impl State {
         Ok(self.past(code).one_row(code, Span { from: n, to: n }))
     }
 
-    // A line that is neither comment nor META line.
-    #[tactic(auto, using(crate::proofs::Laws::sides_inside), unfolding(crate::specs::Step::plain_of))]
-    fn plain(self, text: &[u8], sure: bool) -> Result<Step, Reason>
-        requires { Sure sure (plain_of self text.now) }
-        ensures { result ≡ plain_of self text.now }
-    {
-        match lines::assignment_of(text) {
-            Some(x) => self.assign(x, text),
-            None => self.fields(text, sure),
-        }
-    }
-
     // A comment that follows a data line is noted.
     #[tactic(auto, unfolding(crate::specs::Step::past_comment))]
     fn past_comment(self) -> State
@@ -460,33 +430,9 @@ impl State {
         }
     }
 
-    // A line that is no comment; its trimmed part is t.
-    #[tactic(auto, unfolding(crate::specs::Step::uncommented_of))]
-    fn uncommented(self, t: &Part, sure: bool) -> Result<Step, Reason>
-        requires { Sure sure (uncommented_of self t.now.span t.now.text.now) }
-        ensures { result ≡ uncommented_of self t.now.span t.now.text.now }
-    {
-        match meta_code(self.form, t.bytes()) {
-            Some(code) => self.meta(code, t.span.to),
-            None => self.plain(t.text, sure),
-        }
-    }
-
-    // A line that is not blank; its trimmed part is t.
-    #[tactic(auto, unfolding(crate::specs::Step::filled_of))]
-    fn filled(self, t: &Part, sure: bool) -> Result<Step, Reason>
-        requires { Sure sure (filled_of self t.now.span t.now.text.now) }
-        ensures { result ≡ filled_of self t.now.span t.now.text.now }
-    {
-        match lines::comment_of(t.text) {
-            Some(p) => Ok(self.past_comment().one_row(45, p)),
-            None => self.uncommented(t, sure),
-        }
-    }
-
     // One line judged; where whoever asks is sure that it is right, only what its rows and the next state need is looked at again.
     // `sure` is what the caller promises, and this promise names it.
-    #[tactic(auto, using(crate::proofs::Laws::trim_inside, crate::proofs::Laws::step_right), unfolding(crate::specs::Step::step_of))]
+    #[tactic(auto, using(crate::proofs::Laws::trim_inside, crate::proofs::Laws::sides_inside, crate::proofs::Laws::step_right), unfolding(crate::specs::Step::step_of, crate::specs::Step::filled_of, crate::specs::Step::uncommented_of, crate::specs::Step::plain_of))]
     pub fn step(self, text: &[u8], sure: bool) -> Result<Step, Reason>
         requires { Sure sure (step_of self text.now) }
         ensures { result ≡ step_of self text.now }
@@ -503,6 +449,15 @@ impl State {
         if span.to == 0 {
             return Ok(self.no_row());
         }
-        self.filled(&Part { text, span }, sure)
+        if let Some(value) = lines::comment_of(text) {
+            return Ok(self.past_comment().one_row(45, value));
+        }
+        if let Some(code) = meta_code(self.form, Part { text, span }.bytes()) {
+            return self.meta(code, span.to);
+        }
+        if let Some(sides) = lines::assignment_of(text) {
+            return self.assign(sides, text);
+        }
+        self.fields(text, sure)
     }
 }
