@@ -20,6 +20,7 @@ use Rattle.step.specs.declared.Step.{Step}
 use Rattle.reasons.specs.declared.Reason.{Reason}
 use Rattle.reasons.specs.declared.Reason.TheVariants as Reasons
 use Rattle.judge.specs.declared.Moved.{Moved}
+use Rattle.judge.specs.declared.Offence.{Offence}
 use Rattle.judge.specs.declared.Found.{Found}
 use Rattle.judge.specs.declared.Stop.{Stop}
 use Rattle.judge.specs.declared.Refusal.{Refusal}
@@ -226,7 +227,7 @@ module _ (f : List ℕ) (at : ℕ) (first : Bool) where
   walk = ways _ refl
 
 -- what the next step answers is that line judged
-module _ (f : List ℕ) (at : ℕ) (first : Bool) (st : State) (y : Result (Option Moved) Reason) (q : y ≡ moved_of st at (drop at f) (left f at first)) where
+module _ (f : List ℕ) (at : ℕ) (first : Bool) (st : State) (y : Result (Option Moved) Offence) (q : y ≡ moved_of st at (drop at f) (left f at first)) where
   met : (next : ℕ) (w : AtLine f at first next) → next ≡ at + line_len (drop at f) → y ≡ moved_to next (step_of st w.text)
   unfolding moved_of
   met next w e = q ∙ rw w.more (rw e)
@@ -242,14 +243,14 @@ module _ (f : List ℕ) (at : ℕ) (first : Bool) (st : State) (y : Result (Opti
   abbrev pub Offends : Reason → Type 0
   Offends r = (next : ℕ) × (w : AtLine f at first next) × (step_of st w.text ≡ Err r)
 
-  pub walk_wrong : (r : Reason) → y ≡ Err r → Offends r
+  pub walk_wrong : (o : Offence) → y ≡ Err o → Offends o.reason
   unfolding moved_of
-  walk_wrong r p = ⊎_elim (λ w. absurd (clash (q ∙ rw w))) (λ w. (w.0, w.2, which w.0 _ (met w.0 w.2 w.1))) (walk f at first)
+  walk_wrong o p = ⊎_elim (λ w. absurd (clash (q ∙ rw w))) (λ w. (w.0, w.2, which w.0 _ (met w.0 w.2 w.1))) (walk f at first)
     where
       clash : y ≡ Ok None → ⊥
       clash e = cc
 
-      which : (next : ℕ) (x : Result Step Reason) → y ≡ moved_to next x → x ≡ Err r
+      which : (next : ℕ) (x : Result Step Reason) → y ≡ moved_to next x → x ≡ Err o.reason
       which next (Err s) e = cc
       which next (Ok x) e = cc
 
@@ -284,10 +285,10 @@ module _ (f : List ℕ) (at : ℕ) (first : Bool) (st : State) (y : Result (Opti
   unfolding judge_texts
   judged-end line rows p = rw (walk_end p)
 
-  pub judged-wrong : (line rows : ℕ) (r : Reason) → y ≡ Err r → judge_texts st line rows (texts (left f at first)) ≡ refused r line
+  pub judged-wrong : (line rows : ℕ) (o : Offence) → y ≡ Err o → judge_texts st line rows (texts (left f at first)) ≡ refused o.reason line
   unfolding judge_texts
-  judged-wrong line rows r p =
-      let w = walk_wrong r p in
+  judged-wrong line rows o p =
+      let w = walk_wrong o p in
       rw w.1.more (rw (w.2, judge_texts))
 
   pub judged-right : (line rows : ℕ) (m : Moved) → y ≡ Ok (Some m)
@@ -299,7 +300,7 @@ module _ (f : List ℕ) (at : ℕ) (first : Bool) (st : State) (y : Result (Opti
 
 -- ---- where the walk comes to its end
 
-module _ (f : List ℕ) (at : ℕ) (first : Bool) (st : State) (y : Result (Option Moved) Reason) (q : y ≡ moved_of st at (drop at f) (left f at first)) where
+module _ (f : List ℕ) (at : ℕ) (first : Bool) (st : State) (y : Result (Option Moved) Offence) (q : y ≡ moved_of st at (drop at f) (left f at first)) where
   abbrev ends : Ends
   ends = ends_of at (drop at f)
 
@@ -348,11 +349,11 @@ module _ (f : List ℕ) (at : ℕ) (first : Bool) (st : State) (y : Result (Opti
             let e : length f ≡ at = omega arith in
             rw (none_left f at h) (rw e)
 
-    pub stopped-wrong : (r : Reason) → y ≡ Err r → here ≡ record { at = at; line = line; rows = rows; state = st; offence = Some r }
+    pub stopped-wrong : (o : Offence) → y ≡ Err o → here ≡ record { at = at; line = line; rows = rows; state = st; offence = Some o.reason }
     unfolding stop_of
-    stopped-wrong r p =
-        let w = walk_wrong f at first st y q r p in
-        let e : step_of st text ≡ Err r = rw (same_text w.0 w.1) at w.2 in
+    stopped-wrong o p =
+        let w = walk_wrong f at first st y q o p in
+        let e : step_of st text ≡ Err o.reason = rw (same_text w.0 w.1) at w.2 in
         rw (line_left f at ends (here_in w.0 w.1) refl) (rw (goes w.0 w.1, stop_of) (rw (e, stop_of)))
 
     pub stopped-right : (m : Moved) → y ≡ Ok (Some m)

@@ -13,6 +13,7 @@ use Rattle.reasons.specs.declared.Reason.TheVariants as Reasons
 use Rattle.judge.specs.declared.Refusal.{Refusal}
 use Rattle.judge.specs.declared.Stop.{Stop}
 use Rattle.judge.specs.declared.Moved.{Moved}
+use Rattle.judge.specs.declared.Offence.{Offence}
 use Rattle.judge.specs.declared.Found.{Found}
 use Rattle.judge.specs.declared.Sighted.{Sighted}
 use Rattle.step.specs.declared.State.{State}
@@ -114,13 +115,13 @@ judged_by x = elim x.offence [ Some r ↦ refused r x.line | None ↦ end_of x.s
 
 -- ---- one step of a walk along a message
 
--- a line judged, behind which the next one starts at n
-abbrev pub moved_to : ℕ → Result Step Reason → Result (Option Moved) Reason
-moved_to n (Err r) = Err r
+-- a line judged, behind which the next one starts at n, whether it offends or not
+abbrev pub moved_to : ℕ → Result Step Reason → Result (Option Moved) Offence
+moved_to n (Err r) = Err (record { reason = r; next = n })
 moved_to n (Ok x) = Ok (Some (record { step = x; next = n }))
 
 -- the next line of a message, judged, or none at the message's end: `ls` is what is left of the message, s the bytes from its place on
-unfoldable pub moved_of : State → ℕ → List ℕ → List Line → Result (Option Moved) Reason
+unfoldable pub moved_of : State → ℕ → List ℕ → List Line → Result (Option Moved) Offence
 moved_of st at s [] = Ok None
 moved_of st at s (l ∷ ls) = moved_to (at + line_len s) (step_of st l.text)
 

@@ -36,6 +36,13 @@ pub struct Moved {
     pub next: usize,
 }
 
+// A line that offends: the reason, and the place of the line after it.
+#[derive(Clone, Copy, Debug, PartialEq, Eq)]
+pub struct Offence {
+    pub reason: Reason,
+    pub next: usize,
+}
+
 // Where a walk along a message came to its end: the place, the line, the rows of the lines before it, the state there, and why the line offends, if one does.
 #[derive(Clone, Copy, Debug, PartialEq, Eq)]
 pub struct Stop {
@@ -130,7 +137,7 @@ pub fn next_line(
     first: bool,
     state: State,
     sure: bool,
-) -> Result<Option<Moved>, Reason>
+) -> Result<Option<Moved>, Offence>
     requires { SureNext sure state (up_to first (lines_at at (drop at feed.now))) }
     ensures { result ≡ moved_of state at (drop at feed.now) (up_to first (lines_at at (drop at feed.now))) }
 {
@@ -142,11 +149,11 @@ pub fn next_line(
     if is_over(text, first) {
         return Ok(None);
     }
-    let step = state.step(text, sure)?;
-    Ok(Some(Moved {
-        step,
-        next: ends.next,
-    }))
+    let next = ends.next;
+    match state.step(text, sure) {
+        Ok(step) => Ok(Some(Moved { step, next })),
+        Err(reason) => Err(Offence { reason, next }),
+    }
 }
 
 impl Stop {
@@ -174,30 +181,30 @@ fn walk_from(feed: &[u8], found: Found) -> Stop
     requires { (length feed.now ≤ feed_limit) × (found.at ≤ length feed.now) }
     ensures { result ≡ stop_of (length feed.now) true (fresh_state found.form) 1 0 (lines_at found.at (drop found.at feed.now)) }
 {
-    let mut stop = Stop {
-        at: found.at,
-        line: 1,
-        rows: 0,
-        state: State::fresh(found.form),
-        offence: None,
-    };
+    // four locals, and no Stop that is changed: a state that is a field is copied twice a line
+    let mut at = found.at;
+    let mut line = 1;
+    let mut rows = 0;
+    let mut state = State::fresh(found.form);
     // no iterator: each line is asked for with the state that the one before left
-    'lines: loop {
-        match next_line(feed, stop.at, stop.line == 1, stop.state, false) {
-            Err(reason) => {
-                return Stop {
-                    offence: Some(reason),
-                    ..stop
-                };
-            }
-            Ok(None) => return stop,
+    let offence = 'lines: loop {
+        match next_line(feed, at, line == 1, state, false) {
+            Err(offence) => break 'lines Some(offence.reason),
+            Ok(None) => break 'lines None,
             Ok(Some(moved)) => {
-                stop.rows += moved.step.count as u32;
-                stop.line += 1;
-                stop.state = moved.step.state;
-                stop.at = moved.next;
+                rows += moved.step.count as u32;
+                line += 1;
+                state = moved.step.state;
+                at = moved.next;
             }
         }
+    };
+    Stop {
+        at,
+        line,
+        rows,
+        state,
+        offence,
     }
 }
 

@@ -1,12 +1,10 @@
 -- `judge::next_line` meets its contract: the feed's end, the next heading line, or the line judged.
 -- Assumes nothing.
-use mathlib.Core.Path.{◌≡◌, sym, ap, ◌∙◌}
+use mathlib.Core.Path.{sym, ap, ◌∙◌}
 use native.Mathlib.Omega.{arith}
 use Rattle.lines.proofs.Lists.{Placed, placed}
 use Rattle.judge.specs.Message.{moved_to, SureNext}
 use Rattle.judge.proofs.Laws.{over_up, up_stop, up_more, moved-end, moved_more}
-use Rattle.std.specs.Prelude.{Some, Ok, Err}
-use Rattle.std.proofs.Common.{rules}
 use Rattle.judge.proofs.next_line.Goals as goal
 
 pub returns-then-feed-at : goal.returns-then-feed-at
@@ -35,17 +33,14 @@ pub step-requires : goal.step-requires
 unfolding SureNext
 step-requires c = rw (up_more _ _ _ c.if-feed-at.false c.line_at-ends.ensures _ (sym c.is_over.ensures ∙ c.if-is_over.false)) at c.requires
 
-pub returns-in_err-step : goal.returns-in_err-step
-returns-in_err-step c =
+pub returns-in-Ok : goal.returns-in-Ok
+returns-in-Ok c =
     let more = up_more _ _ _ c.if-feed-at.false c.line_at-ends.ensures _ (sym c.is_over.ensures ∙ c.if-is_over.false) in
     let m = moved_more _ _ _ c.args.state _ c.line_at-ends.ensures more in
-    let e : moved_to c.line_at-ends.result.next c.step.result ≡ Err c.in_err-step.field-0.0 = rw (c.in_err-step.was) in
-    let z : c.from_residual.result ≡ Err c.in_err-step.field-0.0 = search rules in
-    z ∙ sym (m ∙ ap (moved_to c.line_at-ends.result.next) (sym c.step.ensures) ∙ e)
+    sym (m ∙ ap (moved_to c.line_at-ends.result.next) (sym c.step.ensures ∙ c.in-Ok.is))
 
-pub returns : goal.returns
-returns c =
+pub returns-in-Err : goal.returns-in-Err
+returns-in-Err c =
     let more = up_more _ _ _ c.if-feed-at.false c.line_at-ends.ensures _ (sym c.is_over.ensures ∙ c.if-is_over.false) in
     let m = moved_more _ _ _ c.args.state _ c.line_at-ends.ensures more in
-    let e : moved_to c.line_at-ends.result.next c.step.result ≡ Ok (Some (record { step = c.in_ok-step.step; next = c.line_at-ends.result.next })) = rw (c.in_ok-step.was) in
-    sym (m ∙ ap (moved_to c.line_at-ends.result.next) (sym c.step.ensures) ∙ e)
+    sym (m ∙ ap (moved_to c.line_at-ends.result.next) (sym c.step.ensures ∙ c.in-Err.is))
