@@ -194,6 +194,11 @@ word_by_equal (a ∷ w) (b ∷ s) = rw (eqb-suc-suc (length s) (length w)) (ap (
     go false true = refl
     go false false = refl
 
+-- a text as long as a word is the word where it begins with it
+pub word_long : (w s : List ℕ) → length s ≡ length w → begins w s ≡ is_word w s
+unfolding is_word
+word_long w s e = rw (eq-eqb _ _ e)
+
 -- a text that begins with a word has it there
 pub begins-take : (w s : List ℕ) → begins w s ≡ true → take (length w) s ≡ w
 unfolding agrees
