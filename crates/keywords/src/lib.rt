@@ -26,7 +26,7 @@ fn code_in(group: &[(u16, &[u8])], text: &[u8]) -> Option<u16>
     None
 }
 
-// The code of the keyword that the text is, where it is one: only those of its length are compared, since one list of all takes three times as long.
+// The code of the keyword that the text is, where it is one: only those of its length are compared, since to look through one list of all took three times as many instructions.
 #[tactic(auto, unfolding(crate::specs::Keywords::sized, crate::specs::Keywords::entries, crate::specs::Keywords::keywords, words::specs::Words::bytes))]
 pub fn code_of(text: &[u8]) -> Option<u16>
     ensures { result ≡ code_in keywords text.now }

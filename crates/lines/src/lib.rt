@@ -146,7 +146,9 @@ pub fn line_at(feed: &[u8], from: usize) -> Ends
 
 // The lines of a feed.
 pub fn lines_of(feed: &[u8]) -> Lines<'_>
-    ensures { lines_left result ≡ lines feed.now }
+    ensures feed { result.feed.now ≡ feed.now }
+    ensures start { result.at ≡ 0 }
+    ensures left { lines_left result ≡ lines feed.now }
 {
     Lines { feed, at: 0 }
 }

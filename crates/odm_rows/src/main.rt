@@ -1,14 +1,14 @@
 // Reads a feed from standard input and prints its messages' rows, in plain words, one fact a line.
 #![tactic(auto)]
 
-ghost use Rattle.std.specs.Prelude.{◌≡◌, length};
+ghost use Rattle.std.specs.Prelude.{◌≤◌, ◌<◌, ◌≡◌, length, take, IfOk};
+ghost use Rattle.std.specs.Io.KnownBytes.{Consumes, IsAtEnd};
 
 use desk::{Desk, RowNumber, Ticket};
 use judge::{Refusal, Row};
-use reading::read_full;
 use reasons::Reason;
 use std::io;
-use std::io::Write;
+use std::io::{Read, Write};
 
 // The value's bytes are the feed's own, and no text, so that they are written as they stand.
 fn say_value(out: &mut impl Write, value: &[u8]) -> io::Result<()> {
@@ -103,6 +103,27 @@ fn table_space() -> [u8; 320000]
     ensures { 320000 ≡ length result }
 {
     [0; 320000]
+}
+
+// Fills the space until it is full or the input ends, and answers how many bytes are there.
+fn read_full<R: Read>(reader: &mut R, space: &mut [u8]) -> io::Result<usize>
+    ensures within { IfOk result (λ n. n ≤ length space.new) }
+    ensures kept { length space.new ≡ length space.old }
+
+    // Where the reader's bytes are known, the first n of the space are the next ones, and it stops short only at their end.
+    ensures bytes { IfOk result (λ n. Consumes (R.remaining reader.old) (R.remaining reader.new) (take n space.new)) }
+    ensures end { IfOk result (λ n. n < length space.new → IsAtEnd (R.remaining reader.new)) }
+{
+    let mut done = 0;
+    // a read may give any part of what is asked, so no count of turns is known
+    while done < space.len() {
+        let n = reader.read(&mut space[done..])?;
+        if n == 0 {
+            return Ok(done);
+        }
+        done += n;
+    }
+    Ok(done)
 }
 
 // What is read of standard input, at the most: a byte more than a feed may have.

@@ -134,7 +134,7 @@ fn mark_at(manner: Manner, at: usize, byte: u8) -> Mark
     }
 }
 
-// A mark's words, or the byte itself: each arm puts bytes whose number is known there, since most bytes are themselves, and one is put in a tenth of what some take.
+// A mark's words, or the byte itself: each arm puts bytes whose number is known there, since most bytes are themselves, and one put as a part of any length takes some twenty instructions more.
 #[tactic(auto, unfolding(words::specs::Words::bytes))]
 fn put_mark<I: Ink>(ink: &mut I, mark: Mark, byte: u8)
     requires { I.room ink.old (said_by mark (byte ∷ [])) }

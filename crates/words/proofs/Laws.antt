@@ -137,6 +137,10 @@ walk_skip p q f s from i e =
     let k = run_skip p q f (drop from s) (blocks_of r) (div-mul-le_self r 16) in
     rw e (omega (arith, k, ap (run q) (drop-drop (blocks_of r) from s)))
 
+-- behind bytes that the run takes the rest of it is left: by this law two edits of `lines` walk on from a place of their own
+pub run_behind : (p : ℕ → Bool) (s : List ℕ) (i : ℕ) → i ≤ run p s → run p (drop i s) ≡ run p s - i
+run_behind p s i h = omega (arith, h, run_skip p p (λ b e. e) s i h)
+
 -- ---- a pattern at the start of a text, seen from the same place in both
 
 module _ (f : ℕ → ℕ → Bool) (w s : List ℕ) (i : ℕ) where

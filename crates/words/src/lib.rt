@@ -54,7 +54,7 @@ pub fn is_word(text: &[u8], word: &[u8]) -> bool
     if text.len() != word.len() {
         return false;
     }
-    // byte by byte, since words are short: with `==` a message is judged in a twentieth more time
+    // byte by byte, since words are short: with `==` a message is judged in 2 to 3 hundredths more instructions
     for i in 0..word.len() {
         if text[i] != word[i] {
             return false;

@@ -17,7 +17,7 @@ returns-clause-answer c =
     sym (option_map_id _)
     ∙ nth_from_yields_List c.nth.result c.nth.new.self _ c.nth.ensures.ran
     (YieldsList-from_filter_map _ opened_by
-    (YieldsList-from_first line_of lines_left _ (ap lines_left c.filter_map.ensures.source ∙ c.lines_of.ensures))
+    (YieldsList-from_first line_of lines_left _ (ap lines_left c.filter_map.ensures.source ∙ c.lines_of.ensures.left))
     c.filter_map.ensures.closure (λ x r q k. search (rules, tests)))
     ∙ found_nth c.in_ok-before.before (lines c.args.feed.now)
     ∙ ap (λ k. found_of (from_heading k (lines c.args.feed.now))) behind

@@ -1,4 +1,4 @@
--- `reading::read_full` meets its contract: a turn's bytes stand behind those of the turns before.
+-- `leaves::read_full` meets its contract: a turn's bytes stand behind those of the turns before.
 -- Assumes nothing.
 use Rattle.std.proofs.Common.{◌≡◌, ◌≤◌, ◌+◌, ℕ, List, ◌++◌, length, take, sym, subst, rules, drop_at, length-take-le}
 use Rattle.std.specs.Io.KnownBytes.{Consumes}
@@ -6,7 +6,7 @@ use Rattle.std.proofs.KnownBytes.{Consumes-trans}
 use Rattle.std.proofs.lemmas.Slice.{overwrites}
 use borrow.Rule.Slice.PartMut.{put_mid}
 use lib.Seq.{take-add, take-append-le}
-use Rattle.reading.proofs.read_full.Goals as goal
+use Rattle.leaves.proofs.read_full.Goals as goal
 
 -- what stands at the front once ys is written behind the first a bytes: those, and then the first n of ys
 taken : (a k n : ℕ) (xs ys : List ℕ) → a ≤ length xs → n ≤ length ys → take (a + n) (put_mid a k xs ys) ≡ take a xs ++ take n ys

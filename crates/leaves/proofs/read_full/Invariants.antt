@@ -1,10 +1,10 @@
--- `reading::read_full` is safe and ends: no more bytes are there than the space has, and each turn but the last adds one.
+-- `leaves::read_full` is safe and ends: no more bytes are there than the space has, and each turn but the last adds one.
 -- What is there is what the reader had next.
 -- Assumes nothing.
 use Prim.Native.Nat.{◌-◌, ◌≤◌}
 use lib.ListN.{length, take}
 use Rattle.std.specs.Io.KnownBytes.{Consumes}
-use Rattle.reading.proofs.read_full.Given as goal
+use Rattle.leaves.proofs.read_full.Given as goal
 
 abbrev pub invariant-loop-done : goal.invariant-loop-done
 invariant-loop-done g l = record {
