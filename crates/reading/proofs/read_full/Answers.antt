@@ -1,6 +1,6 @@
 -- `reading::read_full` meets its contract: a turn's bytes stand behind those of the turns before.
 -- Assumes nothing.
-use Rattle.std.proofs.Common.{◌≡◌, ◌≤◌, ◌+◌, ℕ, List, ◌++◌, length, take, sym, subst, rules, drop_at, length-take-le}
+use Rattle.std.proofs.Common.{◌≡◌, ◌≤◌, ◌+◌, ℕ, List, ◌++◌, length, take, subst, rules, drop_at, length-take-le}
 use Rattle.std.specs.Io.KnownBytes.{Consumes}
 use Rattle.std.proofs.KnownBytes.{Consumes-trans}
 use Rattle.std.proofs.lemmas.Slice.{overwrites}
@@ -17,5 +17,5 @@ loop-done-preserved g c =
     let read = c.in_ok-n.ensures in
     record {
       within = search rules;
-      bytes = subst (Consumes _ _) (sym (taken _ _ _ _ _ c.loop-done.invariant.within read.bound.0)) (Consumes-trans _ _ _ _ _ c.loop-done.invariant.bytes read.bytes.0);
+      bytes = subst (Consumes _ _) (search (rules, taken)) (Consumes-trans _ _ _ _ _ c.loop-done.invariant.bytes read.bytes.0);
     }
